@@ -1,0 +1,115 @@
+-- The calls: from input bytes and the length of the output to the bytes written, or the refusal. And the two programs.
+use mathlib.Core.Bool.{Bool, true, false, not}
+use Prim.Native.Nat.{ℕ, zero, suc}
+use mathlib.Core.List.{List, [], _∷_, _++_, map}
+use lib.ListN.{length, getD}
+use lib.Dec.{eqb, ltb}
+use Rattle.cells.specs.Part.{if, cell, eqList}
+use Rattle.rules.specs.Plain.{ascii, any, both, joined}
+use Rattle.rules.specs.Ceilings.{mostText}
+use Rattle.rules.specs.Text.{lineFeed, tab, pieces, parted, decimal, lineText}
+use Rattle.rules.specs.Table.{Table, entryOf, kids, Result, accepted, refused, then, tableOf}
+use Rattle.rules.specs.Listing.{rootText, rootTextOf, answersText, listingText, oldListing}
+
+-- 12: "the text to be written is longer than the lent output"
+abbrev pub fits : ℕ → List ℕ → Result (List ℕ)
+fits room text = if (ltb room (length text)) (λ _. refused 12 0) (λ _. accepted text)
+
+-- canon: the listing of a table
+unfoldable pub canon : List ℕ → ℕ → Result (List ℕ)
+canon text room = then (tableOf text) (λ (t : Table). fits room (listingText t))
+
+-- "Calls that take a root directly refuse one of n or more with 3 and line 0"
+unfoldable pub canonRoot : List ℕ → ℕ → ℕ → ℕ → Result (List ℕ)
+canonRoot text id s room =
+    then (tableOf text) (λ (t : Table). if (ltb id (length (t .entries))) (λ _. fits room (rootText t id s)) (λ _. refused 3 0))
+
+abbrev pub sameRows : List (List ℕ) → List (List ℕ) → Bool
+sameRows [] [] = true
+sameRows [] (y ∷ ys) = false
+sameRows (x ∷ xs) [] = false
+sameRows (x ∷ xs) (y ∷ ys) = if (eqList x y) (λ _. sameRows xs ys) (λ _. false)
+
+-- not 10: "budget, n, or a name, pair, mark or root line differs"
+unfoldable pub comparable : Table → Table → Bool
+comparable old new =
+    both (eqb (old .budget) (new .budget))
+    (λ _. both (eqb (length (old .entries)) (length (new .entries)))
+    (λ _. both (sameRows (old .names) (new .names))
+    (λ _. both (sameRows (old .pairs) (new .pairs))
+    (λ _. both (sameRows (old .marks) (new .marks)) (λ _. sameRows (old .roots) (new .roots))))))
+
+abbrev pub rowAt : Table → ℕ → List ℕ
+rowAt t id = getD (t .entries) id []
+
+abbrev pub differs : Table → Table → ℕ → Bool
+differs old new id = not (eqList (rowAt old id) (rowAt new id))
+
+-- a chain of bounds or children from id, of at most f steps, meets an entry that differs
+unfoldable pub meets : ℕ → Table → Table → ℕ → Bool
+meets zero old new id = differs old new id
+meets (suc f) old new id = if (differs old new id) (λ _. true) (λ _. any (meets f old new) (kids (entryOf (rowAt old id))))
+
+-- "redoes a root exactly if a chain of bounds or children from it meets an entry that differs"; n steps reach whatever can be reached
+abbrev pub redone : Table → Table → List ℕ → Bool
+redone old new root = meets (length (old .entries)) old new (cell root 0)
+
+abbrev pub redoneWord : Bool → List ℕ
+redoneWord true = ascii "redone"
+redoneWord false = ascii "kept"
+
+-- the lines of each root: copied, or what the new table gives
+abbrev pub rechecked : Table → Table → List (List ℕ) → List (List ℕ) → List (List ℕ)
+rechecked old new [] texts = []
+rechecked old new (r ∷ rs) [] = []
+rechecked old new (r ∷ rs) (x ∷ xs) = (if (redone old new r) (λ _. rootTextOf new r) (λ _. x)) ∷ rechecked old new rs xs
+
+-- "a first line of `kept` or `redone` for each root, tab between, then the listing"
+unfoldable pub recheckText : Table → Table → List (List ℕ) → List ℕ
+recheckText old new texts =
+    lineText (map (λ (r : List ℕ). redoneWord (redone old new r)) (new .roots))
+    ++ answersText (length (new .roots))
+    ++ joined (rechecked old new (new .roots) texts)
+
+-- recheck: the old table's refusals, the new table's, 10, 11, 12
+unfoldable pub recheck : List ℕ → List ℕ → List ℕ → ℕ → Result (List ℕ)
+recheck oldText newText listing room =
+    then (tableOf oldText) (λ (old : Table). then (tableOf newText) (λ (new : Table).
+    if (comparable old new)
+    (λ _. then (oldListing (length (new .names)) (new .roots) listing) (λ (texts : List (List ℕ)). fits room (recheckText old new texts)))
+    (λ _. refused 10 0)))
+
+pub record Split : Type 0 where
+  pub front : List ℕ
+  pub back : List ℕ
+
+-- a text cut at the first line that is `next`: what stands before it and after it; "A part left out for want of `next` is empty"
+abbrev pub cutNext : List ℕ → List (List ℕ) → Split
+cutNext got [] = record { front = got; back = [] }
+cutNext got (l ∷ []) = record { front = got ++ l; back = [] }
+cutNext got (l ∷ m ∷ ls) =
+    if (eqList l (ascii "next")) (λ _. record { front = got; back = parted lineFeed (m ∷ ls) })
+    (λ _. cutNext (got ++ l ++ (lineFeed ∷ [])) (m ∷ ls))
+
+unfoldable pub splitNext : List ℕ → Split
+splitNext text = cutNext [] (pieces lineFeed text)
+
+-- what a program prints: the text, or "`refused`, number, line"
+abbrev pub printed : Result (List ℕ) → List ℕ
+printed (accepted text) = text
+printed (refused k l) = lineText (ascii "refused" ∷ decimal k ∷ decimal l ∷ [])
+
+-- "Both programs lend 65,536 bytes of output"
+abbrev pub lent : ℕ
+lent = mostText
+
+-- the program canon, from standard input to standard output
+unfoldable pub canonProgram : List ℕ → List ℕ
+canonProgram input = printed (canon input lent)
+
+abbrev pub recheckParts : Split → Result (List ℕ)
+recheckParts s = recheck (s .front) (splitNext (s .back) .front) (splitNext (s .back) .back) lent
+
+-- the program recheck: "old table, a line `next`, new table, `next`, old listing"
+unfoldable pub recheckProgram : List ℕ → List ℕ
+recheckProgram input = printed (recheckParts (splitNext input))

@@ -1,0 +1,11 @@
+pub mod Plain
+pub mod Text
+pub mod Ceilings
+pub mod Table
+pub mod Types
+pub mod Order
+pub mod Members
+pub mod Run
+pub mod Listing
+pub mod Calls
+pub mod Examples
