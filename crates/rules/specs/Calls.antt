@@ -7,7 +7,7 @@ use lib.Dec.{eqb, ltb}
 use Rattle.cells.specs.Part.{if, cell, eqList}
 use Rattle.rules.specs.Plain.{ascii, any, both, joined}
 use Rattle.rules.specs.Ceilings.{mostText}
-use Rattle.rules.specs.Text.{lineFeed, tab, pieces, parted, decimal, lineText}
+use Rattle.rules.specs.Text.{lineFeed, pieces, parted, decimal, lineText}
 use Rattle.rules.specs.Table.{Table, entryOf, kids, Result, accepted, refused, then, tableOf}
 use Rattle.rules.specs.Listing.{rootText, rootTextOf, answersText, listingText, oldListing}
 
@@ -19,7 +19,7 @@ fits room text = if (ltb room (length text)) (λ _. refused 12 0) (λ _. accepte
 unfoldable pub canon : List ℕ → ℕ → Result (List ℕ)
 canon text room = then (tableOf text) (λ (t : Table). fits room (listingText t))
 
--- "Calls that take a root directly refuse one of n or more with 3 and line 0"
+-- "Calls that take a root directly refuse one of n or more with 3 and line 0". A sign of 0 is +, any other is -
 unfoldable pub canonRoot : List ℕ → ℕ → ℕ → ℕ → Result (List ℕ)
 canonRoot text id s room =
     then (tableOf text) (λ (t : Table). if (ltb id (length (t .entries))) (λ _. fits room (rootText t id s)) (λ _. refused 3 0))
@@ -50,7 +50,7 @@ unfoldable pub meets : ℕ → Table → Table → ℕ → Bool
 meets zero old new id = differs old new id
 meets (suc f) old new id = if (differs old new id) (λ _. true) (λ _. any (meets f old new) (kids (entryOf (rowAt old id))))
 
--- "redoes a root exactly if a chain of bounds or children from it meets an entry that differs"; n steps reach whatever can be reached
+-- a root is redone exactly if a chain of bounds or children from it meets an entry that differs; n steps reach whatever can be reached
 abbrev pub redone : Table → Table → List ℕ → Bool
 redone old new root = meets (length (old .entries)) old new (cell root 0)
 

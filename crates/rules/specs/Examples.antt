@@ -1,6 +1,5 @@
 -- Worked examples of the scope document, from table text to listing text, as one table with a single theorem.
 use mathlib.Core.Path.{_≡_, refl}
-use Prim.Native.Nat.{ℕ}
 use Prim.Native.String.{String}
 use mathlib.Core.List.{List, [], _∷_, map}
 use Rattle.rules.specs.Plain.{ascii}

@@ -1,14 +1,14 @@
 -- The listing: how a root's answer is printed, and when an old listing is in form (11 with its line).
-use mathlib.Core.Bool.{Bool, true, false, not}
-use Prim.Native.Nat.{ℕ, zero, suc, _+_}
+use mathlib.Core.Bool.{Bool, false}
+use Prim.Native.Nat.{ℕ, zero, suc}
 use mathlib.Core.List.{List, [], _∷_, _++_, map, foldl}
 use lib.ListN.{length}
 use lib.Dec.{eqb, ltb, leb}
-use Rattle.cells.specs.Part.{if, cell, part, eqList}
+use Rattle.cells.specs.Part.{if, cell, part}
 use Rattle.rules.specs.Plain.{ascii, Maybe, none, some, contains, joined, both, flag, position}
 use Rattle.rules.specs.Ceilings.{mostText, mostMembers, mostNodes}
 use Rattle.rules.specs.Text.{tab, lineFeed, pieces, number, decimal, Kind, byWord, rowOf, rowTexts, lineText, aNumber, aFlag, aSign}
-use Rattle.rules.specs.Table.{Field, Attr, kind, attrAt, keysIn, keysAscend, Result, accepted, refused, then, allBelow, Table}
+use Rattle.rules.specs.Table.{Field, kind, attrAt, keysIn, keysAscend, Result, accepted, refused, then, allBelow, Table}
 use Rattle.rules.specs.Types.{Node, TyVar, Primitive, ListOf, Lambda, AttrSet, Union, Intersection, Named, Neg, Bottom, Top, nodeKinds, encode, children, members, asAttr, nodeAt, polarityOf}
 use Rattle.rules.specs.Run.{Answer, shown, refusedWith, answerOf}
 

@@ -1,14 +1,14 @@
 -- The member-list functions, each under the name of the Rust function that it is. Members are node numbers: equal nodes have one number.
 use mathlib.Core.Bool.{Bool, true, false, not, _||_}
 use Prim.Native.Nat.{ℕ, zero, suc}
-use mathlib.Core.List.{List, [], _∷_, _++_, map}
+use mathlib.Core.List.{List, [], _∷_, _++_}
 use lib.ListN.{length}
 use lib.Dec.{eqb, ltb}
 use Rattle.cells.specs.Part.{if}
 use Rattle.rules.specs.Plain.{Maybe, none, some, any, all, filter, contains, empty, addNew, both}
 use Rattle.rules.specs.Table.{Field, Attr, fieldKeys}
 use Rattle.rules.specs.Order.{sort}
-use Rattle.rules.specs.Types.{Node, TyVar, Primitive, ListOf, Lambda, AttrSet, Union, Intersection, Named, Neg, Bottom, Top, kindOf, members, asAttr, State, ok, Run, _>>=_, give, ask, store, nodeAt, is, tyVarKind, primitiveKind, listKind, lambdaKind, attrSetKind, unionKind, intersectionKind, negKind, bottomKind, topKind}
+use Rattle.rules.specs.Types.{Node, TyVar, Primitive, ListOf, Lambda, AttrSet, Union, Intersection, Named, Neg, Bottom, Top, kindOf, members, asAttr, ok, Run, _>>=_, give, ask, store, nodeAt, is, tyVarKind, primitiveKind, listKind, lambdaKind, attrSetKind, unionKind, negKind, bottomKind, topKind}
 
 abbrev pub membersAt : List Node → ℕ → List ℕ
 membersAt ns x = members (nodeAt ns x)

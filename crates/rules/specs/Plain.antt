@@ -1,6 +1,6 @@
 -- Words that the rules are written in: tests on lists, a value that may be missing, and ASCII text as bytes.
-use mathlib.Core.Bool.{Bool, true, false, not, _||_}
-use Prim.Native.Nat.{ℕ, zero, suc}
+use mathlib.Core.Bool.{Bool, true, false}
+use Prim.Native.Nat.{ℕ, suc}
 use Prim.Native.String.{String, [] as end, _∷_ as _then_}
 use Prim.Native.Char.{code}
 use mathlib.Core.List.{List, [], _∷_, _++_}

@@ -2,14 +2,14 @@
 -- A rule takes the pass p, the reader t of entries and the visitor v; only `visit` recurses, on the number of free keys.
 use mathlib.Core.Bool.{Bool, true, false, not, _||_}
 use Prim.Native.Nat.{ℕ, zero, suc, _+_, _*_, _%_}
-use mathlib.Core.List.{List, [], _∷_, _++_, map}
+use mathlib.Core.List.{List, [], _∷_, _++_}
 use lib.ListN.{length, getD, set as setAt, replicate}
 use lib.Dec.{eqb, ltb}
 use Rattle.cells.specs.Part.{if, cell, eqList}
-use Rattle.rules.specs.Plain.{ascii, Maybe, none, some, any, filter, contains, empty, addNew, both}
+use Rattle.rules.specs.Plain.{ascii, Maybe, none, some, any, filter, empty, both}
 use Rattle.rules.specs.Ceilings.{mostKeys, mostOperations}
-use Rattle.rules.specs.Table.{Field, Attr, Entry, var, prim, tyvar, list, fn, set, neg, named, inter, union, frozen, entryOf, entryKind, varKind, primKind, namedKind, Table, representatives, repIn}
-use Rattle.rules.specs.Types.{Node, TyVar, Primitive, ListOf, Lambda, AttrSet, Union, Intersection, Named, Neg, Bottom, Top, kindOf, flip, sign, positive, State, Out, ok, no, Run, _>>=_, give, refuse, ask, store, limit, nodeAt, is, tyVarKind, unionKind, intersectionKind, bottomKind, topKind}
+use Rattle.rules.specs.Table.{Field, Entry, var, prim, tyvar, list, fn, set, neg, named, inter, union, frozen, entryOf, entryKind, varEntry, primEntry, namedEntry, Table, representatives, repIn}
+use Rattle.rules.specs.Types.{Node, TyVar, Primitive, ListOf, Lambda, AttrSet, Union, Intersection, Named, Neg, Bottom, Top, flip, sign, positive, State, Out, ok, no, Run, _>>=_, give, refuse, ask, store, limit, nodeAt, is, tyVarKind, unionKind, intersectionKind, bottomKind}
 use Rattle.rules.specs.Members.{addAll, each, flatten-composite, remove-tautological-pairs, absorb-subsumed-union-members, merge-attrset-intersection, remove-redundant-negations, has-type-contradiction, simplify-union-neg-intersection, factor-shared-from-intersection, negate-output-ty}
 use Rattle.rules.specs.declared.Polarity.{Polarity}
 use Rattle.rules.specs.declared.Polarity.the-variants.{Positive, Negative}
@@ -149,13 +149,13 @@ expand-bounds p v rest bs pol = do
   normalized p rest pol ms
 
 abbrev pub isVariable : Entry → Bool
-isVariable e = eqb (entryKind e) varKind
+isVariable e = eqb (entryKind e) varEntry
 
 abbrev pub isNamed : Entry → Bool
-isNamed e = eqb (entryKind e) namedKind
+isNamed e = eqb (entryKind e) namedEntry
 
 abbrev pub isPrim : Entry → Bool
-isPrim e = eqb (entryKind e) primKind
+isPrim e = eqb (entryKind e) primEntry
 
 abbrev pub negated : Entry → List ℕ
 negated (var l u) = []
@@ -237,7 +237,7 @@ abbrev pub expansion : Pass → Reader → Visit → ℕ → List ℕ → Polari
 expansion p t v id bs pol =
     expand-bounds p v (expand-bounds-empty-fallback chain p t v (record { lower = false; upper = false }) id pol) bs pol
 
--- the bounds of a place: "Reading the representative's bounds instead of the variable's own" is wrong
+-- the bounds of a place
 abbrev pub boundsOf : Polarity → List ℕ → List ℕ → List ℕ
 boundsOf Positive l u = l
 boundsOf Negative l u = u
@@ -375,7 +375,8 @@ rule p t v id (inter a b) pol = interRule p t v a b pol
 rule p t v id (union a b) pol = unionRule p v a b pol
 rule p t v id frozen pol = refuse 5
 
--- "Otherwise work it out, store, cache"
+-- "Otherwise work it out, store, cache". The entry is the id's own: "Reading the representative's bounds instead of the variable's own"
+-- is easy to get wrong
 abbrev pub work : Pass → Reader → Visit → ℕ → Polarity → Run ℕ
 work p t v id pol = do
   _ ← setKey (slot id pol) 1

@@ -1,11 +1,11 @@
 -- The table text: its records, when it is accepted, and refusals 1 to 5 with their line.
-use mathlib.Core.Bool.{Bool, true, false, not, _||_}
+use mathlib.Core.Bool.{Bool, true}
 use Prim.Native.Nat.{ℕ, zero, suc, _+_, _-_, _*_}
 use mathlib.Core.List.{List, [], _∷_, _++_, map}
 use lib.ListN.{length, drop, getD}
 use lib.Dec.{eqb, ltb, leb}
 use Rattle.cells.specs.Part.{if, cell, part}
-use Rattle.rules.specs.Plain.{ascii, Maybe, none, some, any, all, both, ascending, before}
+use Rattle.rules.specs.Plain.{ascii, Maybe, none, some, all, both, ascending, before}
 use Rattle.rules.specs.Ceilings.{mostText, mostNames, longestName, mostEntries, mostIds, mostPairs, mostMarks, mostRoots}
 use Rattle.rules.specs.Text.{lineFeed, pieces, Kind, rowOf, aNumber, aCode, aFlag, aList, aDyn, someFields, aSign, aName}
 
@@ -113,20 +113,17 @@ entryKind (inter a b) = 10
 entryKind (union a b) = 11
 entryKind frozen = 12
 
-abbrev pub varKind : ℕ
-varKind = 2
+abbrev pub varEntry : ℕ
+varEntry = 2
 
-abbrev pub primKind : ℕ
-primKind = 3
+abbrev pub primEntry : ℕ
+primEntry = 3
 
-abbrev pub negKind : ℕ
-negKind = 8
+abbrev pub namedEntry : ℕ
+namedEntry = 9
 
-abbrev pub namedKind : ℕ
-namedKind = 9
-
-abbrev pub frozenKind : ℕ
-frozenKind = 12
+abbrev pub frozenEntry : ℕ
+frozenEntry = 12
 
 abbrev pub fieldTypes : List Field → List ℕ
 fieldTypes fs = map (λ (f : Field). f .type) fs
@@ -269,7 +266,7 @@ admit r s row =
     if (inOrder (r .stage) s)
     (λ _. if (over (add r s row) s row) (λ _. fault 2)
     (λ _. if (ascends (r .table) s row)
-    (λ _. if (eqb (cell row 0) frozenKind) (λ _. fault 5) (λ _. taken (add r s row)))
+    (λ _. if (eqb (cell row 0) frozenEntry) (λ _. fault 5) (λ _. taken (add r s row)))
     (λ _. fault 4)))
     (λ _. fault 1)
 

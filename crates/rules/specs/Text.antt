@@ -1,6 +1,6 @@
 -- Text: decimals, escapes, lines, fields. A line is a keyword and fields, parted by tabs; its kind says what stands in each field.
 -- The kinds serve the reader and the printer alike.
-use mathlib.Core.Bool.{Bool, true, false}
+use mathlib.Core.Bool.{Bool, true}
 use Prim.Native.Nat.{ℕ, zero, suc, _+_, _-_, _*_, _/_, _%_}
 use mathlib.Core.List.{List, [], _∷_, _++_, map}
 use lib.ListN.{length, take, drop, getD}
