@@ -8,4 +8,5 @@ pub mod Members
 pub mod Run
 pub mod Listing
 pub mod Calls
+pub mod Numbers
 pub mod Examples

@@ -1,0 +1,196 @@
+// TypeArena: node i is words[starts[i]..starts[i + 1]], the number of its kind and then its contents. A new node's row is written behind
+// the last one, compared with each row, and kept by a greater count or dropped by none.
+use cells::add;
+use cells::at;
+use cells::get;
+use cells::place;
+use cells::put;
+use cells::set;
+
+// The kinds, in OutputTy's order.
+pub struct OutputTy {}
+
+impl OutputTy {
+    pub const TY_VAR: u32 = 0;
+    pub const PRIMITIVE: u32 = 1;
+    pub const LIST: u32 = 2;
+    pub const LAMBDA: u32 = 3;
+    pub const ATTR_SET: u32 = 4;
+    pub const UNION: u32 = 5;
+    pub const INTERSECTION: u32 = 6;
+    pub const NAMED: u32 = 7;
+    pub const NEG: u32 = 8;
+    pub const BOTTOM: u32 = 9;
+    pub const TOP: u32 = 10;
+}
+
+// What a pass counts: nodes, their cells, operations; and its marks.
+pub struct Pass {
+    pub nodes: u32,
+    pub cells: u32,
+    pub ops: u32,
+    pub sorted: bool,
+    pub bailed: bool,
+}
+
+impl Pass {
+    pub const NODES: u32 = 4096;
+    pub const CELLS: u32 = 16384;
+    pub const MEMBERS: u32 = 128;
+}
+
+// A node with the pass after it, or the number of a refusal.
+pub enum Given {
+    Node(u32, Pass),
+    Refused(u32),
+}
+
+pub enum Found {
+    At(u32),
+    Nowhere,
+}
+
+// The word i of node x.
+pub fn word(starts: &[u32], words: &[u32], x: u32, i: u32) -> u32 {
+    get(words, place(at(starts, x), i))
+}
+
+pub fn kind(starts: &[u32], words: &[u32], x: u32) -> u32 {
+    word(starts, words, x, 0)
+}
+
+pub fn is(starts: &[u32], words: &[u32], k: u32, x: u32) -> bool {
+    kind(starts, words, x) == k
+}
+
+// How many members a union or an intersection has; a node of another kind has none.
+pub fn count(starts: &[u32], words: &[u32], x: u32) -> u32 {
+    let k = kind(starts, words, x);
+    if k == OutputTy::UNION || k == OutputTy::INTERSECTION {
+        word(starts, words, x, 1)
+    } else {
+        0
+    }
+}
+
+// Member i of a union or an intersection.
+pub fn member(starts: &[u32], words: &[u32], x: u32, i: u32) -> u32 {
+    word(starts, words, x, add(i, 2))
+}
+
+// Whether row i is the len words from top on.
+fn row_is(starts: &[u32], words: &[u32], i: u32, top: u32, len: u32) -> bool {
+    let a = at(starts, i);
+    let e = get(starts, place(i, 1));
+    if e != add(a, len) {
+        return false;
+    }
+    let mut j = 0;
+    while j < len {
+        if get(words, place(a, j)) != get(words, place(top, j)) {
+            return false;
+        }
+        j += 1;
+    }
+    true
+}
+
+// The first row that equals the len words from top on.
+fn find(starts: &[u32], words: &[u32], nodes: u32, top: u32, len: u32) -> Found {
+    let mut i = 0;
+    while i < nodes {
+        if row_is(starts, words, i, top, len) {
+            return Found::At(i);
+        }
+        i += 1;
+    }
+    Found::Nowhere
+}
+
+// The new row as the next node, with its cells.
+fn keep(starts: &mut [u32], q: Pass, end: u32, cells: u32) -> Given {
+    let n = q.nodes;
+    if Pass::NODES <= n {
+        return Given::Refused(8);
+    }
+    let sum = add(q.cells, cells);
+    if Pass::CELLS < sum {
+        return Given::Refused(9);
+    }
+    put(starts, place(n, 1), end);
+    let r = Pass {
+        nodes: n + 1,
+        cells: sum,
+        ops: q.ops,
+        sorted: q.sorted,
+        bailed: q.bailed,
+    };
+    Given::Node(n, r)
+}
+
+// TypeArena::intern: the node whose row is the len words behind the last row: the number of the one that is there, or the next.
+pub fn intern(starts: &mut [u32], words: &[u32], q: Pass, len: u32, cells: u32) -> Given {
+    let n = q.nodes;
+    let top = at(starts, n);
+    match find(starts, words, n, top, len) {
+        Found::At(i) => Given::Node(i, q),
+        Found::Nowhere => keep(starts, q, add(top, len), cells),
+    }
+}
+
+// The first word that no row has.
+pub fn top(starts: &[u32], q: Pass) -> u32 {
+    let n = q.nodes;
+    at(starts, n)
+}
+
+// A node of its kind alone: Bottom or Top.
+pub fn store_leaf(starts: &mut [u32], words: &mut [u32], q: Pass, kind: u32) -> Given {
+    let t = top(starts, q);
+    set(words, t, kind);
+    intern(starts, words, q, 1, 0)
+}
+
+// A node of a kind and one number: a variable, a primitive, a list, a negation.
+pub fn store_one(starts: &mut [u32], words: &mut [u32], q: Pass, kind: u32, a: u32) -> Given {
+    let t = top(starts, q);
+    set(words, t, kind);
+    put(words, place(t, 1), a);
+    intern(starts, words, q, 2, 0)
+}
+
+// A node of a kind and two numbers: a function, a named type.
+pub fn store_two(starts: &mut [u32], words: &mut [u32], q: Pass, kind: u32, a: u32, b: u32) -> Given {
+    let t = top(starts, q);
+    set(words, t, kind);
+    put(words, place(t, 1), a);
+    put(words, place(t, 2), b);
+    intern(starts, words, q, 3, 0)
+}
+
+// A union or an intersection of two members.
+pub fn store_both(starts: &mut [u32], words: &mut [u32], q: Pass, kind: u32, a: u32, b: u32) -> Given {
+    let t = top(starts, q);
+    set(words, t, kind);
+    put(words, place(t, 1), 2);
+    put(words, place(t, 2), a);
+    put(words, place(t, 3), b);
+    intern(starts, words, q, 4, 2)
+}
+
+// A union or an intersection of the n numbers from a on in another slice; 7 where they are too many.
+pub fn store_list(starts: &mut [u32], words: &mut [u32], q: Pass, kind: u32, from: &[u32], a: u32, n: u32) -> Given {
+    if Pass::MEMBERS < n {
+        return Given::Refused(7);
+    }
+    let t = top(starts, q);
+    set(words, t, kind);
+    put(words, place(t, 1), n);
+    let m = add(t, 2);
+    let mut i = 0;
+    while i < n {
+        put(words, place(m, i), get(from, place(a, i)));
+        i += 1;
+    }
+    intern(starts, words, q, n + 2, n)
+}

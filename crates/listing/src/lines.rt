@@ -1,0 +1,239 @@
+// The lines of a listing.
+use crate::walk;
+use crate::write::byte;
+use crate::write::decimal;
+use crate::write::number_field;
+use crate::write::sign_field;
+use crate::write::word;
+use cells::add;
+use cells::get;
+use cells::place;
+use lang_ty::arena;
+use lang_ty::arena::OutputTy;
+use lang_ty::attrset;
+use lang_ty::disjoint::set_place;
+
+// What a root's line says, and the root's node.
+pub struct Head {
+    pub passes: u32,
+    pub ops: u32,
+    pub sorted: bool,
+    pub bailed: bool,
+    pub node: u32,
+}
+
+// `answers`, root count.
+pub fn answers(out: &mut [u8], at: u32, roots: u32) -> u32 {
+    let p = word(out, at, b"answers");
+    let p = number_field(out, p, roots);
+    byte(out, p, 10)
+}
+
+// `refused`, number, line.
+pub fn refused_call(out: &mut [u8], at: u32, number: u32, line: u32) -> u32 {
+    let p = word(out, at, b"refused");
+    let p = number_field(out, p, number);
+    let p = number_field(out, p, line);
+    byte(out, p, 10)
+}
+
+// `refused`, id, sign, number.
+pub fn refused_root(out: &mut [u8], at: u32, id: u32, sign: u32, number: u32) -> u32 {
+    let p = word(out, at, b"refused");
+    let p = number_field(out, p, id);
+    let p = sign_field(out, p, sign);
+    let p = number_field(out, p, number);
+    byte(out, p, 10)
+}
+
+fn flag(b: bool) -> u32 {
+    if b { 1 } else { 0 }
+}
+
+// Passes, operations, sorted, bailed, node count.
+fn counts(out: &mut [u8], at: u32, s: Head, n: u32) -> u32 {
+    let p = number_field(out, at, s.passes);
+    let p = number_field(out, p, s.ops);
+    let p = number_field(out, p, flag(s.sorted));
+    let p = number_field(out, p, flag(s.bailed));
+    number_field(out, p, n)
+}
+
+// `root`, id, sign, and the counts.
+fn root_line(out: &mut [u8], at: u32, id: u32, sign: u32, s: Head, n: u32) -> u32 {
+    let p = word(out, at, b"root");
+    let p = number_field(out, p, id);
+    let p = sign_field(out, p, sign);
+    let p = counts(out, p, s, n);
+    byte(out, p, 10)
+}
+
+// Before element i of a list: a tab, or the comma that parts it from the one before.
+fn before(out: &mut [u8], at: u32, i: u32) -> u32 {
+    if i == 0 {
+        return byte(out, at, 9);
+    }
+    byte(out, at, 44)
+}
+
+// A tab and `-`, an empty list.
+fn no_list(out: &mut [u8], at: u32) -> u32 {
+    word(out, at, b"\x09-")
+}
+
+// A tab and the n nodes from a on, by their numbers.
+fn node_list(words: &[u32], work: &[u32], out: &mut [u8], at: u32, a: u32, n: u32) -> u32 {
+    if n == 0 {
+        return no_list(out, at);
+    }
+    let mut p = at;
+    let mut i = 0;
+    while i < n {
+        p = before(out, p, i);
+        p = decimal(out, p, walk::number(work, get(words, place(a, i))));
+        i += 1;
+    }
+    p
+}
+
+// A tab and the n keys from a on.
+fn key_list(words: &[u32], out: &mut [u8], at: u32, a: u32, n: u32) -> u32 {
+    if n == 0 {
+        return no_list(out, at);
+    }
+    let mut p = at;
+    let mut i = 0;
+    while i < n {
+        p = before(out, p, i);
+        p = decimal(out, p, get(words, place(a, i)));
+        i += 1;
+    }
+    p
+}
+
+// A tab and the fields of the set at a, a key and a node each.
+fn field_list(words: &[u32], work: &[u32], out: &mut [u8], at: u32, a: u32) -> u32 {
+    let n = attrset::fields(words, a);
+    if n == 0 {
+        return no_list(out, at);
+    }
+    let mut p = at;
+    let mut i = 0;
+    while i < n {
+        p = before(out, p, i);
+        p = decimal(out, p, attrset::key(words, a, i));
+        p = byte(out, p, 58);
+        p = decimal(out, p, walk::number(work, attrset::field_type(words, a, i)));
+        i += 1;
+    }
+    p
+}
+
+// Fields, dyn, open and optional keys of the set at a.
+fn set_contents(words: &[u32], work: &[u32], out: &mut [u8], at: u32, a: u32) -> u32 {
+    let p = field_list(words, work, out, at, a);
+    let d = attrset::dyn_place(words, a);
+    let p = node_list(words, work, out, p, add(d, 1), attrset::dyns(words, a));
+    let p = number_field(out, p, attrset::open(words, a));
+    let o = attrset::open_place(words, a);
+    key_list(words, out, p, add(o, 2), attrset::optionals(words, a))
+}
+
+// A tab and node y, by its number.
+fn node_field(work: &[u32], out: &mut [u8], at: u32, y: u32) -> u32 {
+    number_field(out, at, walk::number(work, y))
+}
+
+// What stands behind the keyword of node x.
+fn contents(starts: &[u32], words: &[u32], work: &[u32], out: &mut [u8], at: u32, x: u32) -> u32 {
+    let k = arena::kind(starts, words, x);
+    let a = arena::word(starts, words, x, 1);
+    let b = arena::word(starts, words, x, 2);
+    if k == OutputTy::TY_VAR || k == OutputTy::PRIMITIVE {
+        return number_field(out, at, a);
+    }
+    if k == OutputTy::LIST || k == OutputTy::NEG {
+        return node_field(work, out, at, a);
+    }
+    if k == OutputTy::LAMBDA {
+        let p = node_field(work, out, at, a);
+        return node_field(work, out, p, b);
+    }
+    if k == OutputTy::NAMED {
+        let p = number_field(out, at, a);
+        return node_field(work, out, p, b);
+    }
+    if k == OutputTy::ATTR_SET {
+        return set_contents(words, work, out, at, set_place(starts, x));
+    }
+    if k == OutputTy::UNION || k == OutputTy::INTERSECTION {
+        return node_list(words, work, out, at, add(cells::at(starts, x), 2), a);
+    }
+    at
+}
+
+// The keyword of a kind from 6 on.
+fn keyword_from_6(out: &mut [u8], at: u32, kind: u32) -> u32 {
+    if kind == OutputTy::INTERSECTION {
+        return word(out, at, b"inter");
+    }
+    if kind == OutputTy::NAMED {
+        return word(out, at, b"named");
+    }
+    if kind == OutputTy::NEG {
+        return word(out, at, b"neg");
+    }
+    if kind == OutputTy::BOTTOM {
+        return word(out, at, b"bottom");
+    }
+    word(out, at, b"top")
+}
+
+fn keyword(out: &mut [u8], at: u32, kind: u32) -> u32 {
+    if kind == OutputTy::TY_VAR {
+        return word(out, at, b"tyvar");
+    }
+    if kind == OutputTy::PRIMITIVE {
+        return word(out, at, b"prim");
+    }
+    if kind == OutputTy::LIST {
+        return word(out, at, b"list");
+    }
+    if kind == OutputTy::LAMBDA {
+        return word(out, at, b"fn");
+    }
+    if kind == OutputTy::ATTR_SET {
+        return word(out, at, b"set");
+    }
+    if kind == OutputTy::UNION {
+        return word(out, at, b"union");
+    }
+    keyword_from_6(out, at, kind)
+}
+
+// The line of node k of the listing: number, kind, contents.
+fn node_line(starts: &[u32], words: &[u32], work: &[u32], out: &mut [u8], at: u32, k: u32) -> u32 {
+    let x = walk::node(work, k);
+    let p = decimal(out, at, k);
+    let p = byte(out, p, 9);
+    let p = keyword(out, p, arena::kind(starts, words, x));
+    let p = contents(starts, words, work, out, p, x);
+    byte(out, p, 10)
+}
+
+fn node_lines(starts: &[u32], words: &[u32], work: &[u32], out: &mut [u8], at: u32, n: u32) -> u32 {
+    let mut p = at;
+    let mut k = 0;
+    while k < n {
+        p = node_line(starts, words, work, out, p, k);
+        k += 1;
+    }
+    p
+}
+
+// The lines of a root that is not refused, with its nodes, children first. The first 8,192 cells of work are used.
+pub fn root_lines(starts: &[u32], words: &[u32], work: &mut [u32], out: &mut [u8], at: u32, id: u32, sign: u32, s: Head) -> u32 {
+    let n = walk::walk(starts, words, work, s.node);
+    let p = root_line(out, at, id, sign, s, n);
+    node_lines(starts, words, work, out, p, n)
+}

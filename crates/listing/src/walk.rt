@@ -1,0 +1,49 @@
+// The order of a root's nodes in its listing. In work the cell of a node is its number and 1, or 0 before it has one; from ORDER on stand
+// the nodes by their numbers.
+use cells::add;
+use cells::at;
+use cells::get;
+use cells::place;
+use cells::put;
+use cells::set;
+use lang_ty::arc_ty;
+
+const ORDER: u32 = 4096;
+
+// The nodes below x and x itself, numbered from k on, children first; the next number. A child has a smaller number than its node.
+fn visit(starts: &[u32], words: &[u32], work: &mut [u32], x: u32, k: u32) -> u32 {
+    if at(work, x) != 0 {
+        return k;
+    }
+    let n = arc_ty::children(starts, words, x);
+    let mut next = k;
+    let mut i = 0;
+    while i < n {
+        let c = arc_ty::child(starts, words, x, i);
+        if c < x {
+            next = visit(starts, words, work, c, next);
+        }
+        i += 1;
+    }
+    put(work, place(ORDER, next), x);
+    next = add(next, 1);
+    set(work, x, next);
+    next
+}
+
+// How many nodes are reached from x.
+pub fn walk(starts: &[u32], words: &[u32], work: &mut [u32], x: u32) -> u32 {
+    cells::clear(work, 0, add(x, 1));
+    visit(starts, words, work, x, 0)
+}
+
+// Node k of the listing.
+pub fn node(work: &[u32], k: u32) -> u32 {
+    get(work, place(ORDER, k))
+}
+
+// The number of node x in the listing.
+pub fn number(work: &[u32], x: u32) -> u32 {
+    let n = at(work, x);
+    if n == 0 { 0 } else { n - 1 }
+}

@@ -1,0 +1,72 @@
+// Text into a lent slice: a byte is put where the slice reaches, and the position goes on past its end.
+ghost use mathlib.Core.Path.{_≡_};
+ghost use Prim.Native.Nat.{_+_};
+ghost use mathlib.Core.List.{[], _∷_, _++_};
+ghost use lib.ListN.{set};
+ghost use Rattle.rules.specs.Text.{tab, decimal, fieldText, aSign};
+ghost use Rattle.listing.specs.Writes.{capped, Wrote};
+
+fn put(out: &mut [u8], i: usize, b: u8)
+    ensures { λ _. ⌜ now (out .exit) ≡ set (now (out .entry)) i b ⌝ }
+{
+    if i < out.len() {
+        out[i] = b;
+    }
+}
+
+// The position after at; the greatest number is its own.
+fn after(at: u32) -> u32
+    ensures { λ r. ⌜ r ≡ capped (at + 1) ⌝ }
+{
+    if at < 4294967295 { at + 1 } else { at }
+}
+
+pub fn byte(out: &mut [u8], at: u32, b: u8) -> u32
+    ensures { λ r. ⌜ Wrote (b ∷ []) at (now (out .entry)) (now (out .exit)) r ⌝ }
+{
+    put(out, at as usize, b);
+    after(at)
+}
+
+// The bytes of w.
+pub fn word(out: &mut [u8], at: u32, w: &[u8]) -> u32
+    ensures { λ r. ⌜ Wrote (now (w .entry)) at (now (out .entry)) (now (out .exit)) r ⌝ }
+{
+    let mut p = at;
+    let mut i = 0;
+    while i < w.len() {
+        p = byte(out, p, w[i]);
+        i += 1;
+    }
+    p
+}
+
+// n in decimal.
+pub fn decimal(out: &mut [u8], at: u32, n: u32) -> u32
+    ensures { λ r. ⌜ Wrote (decimal n) at (now (out .entry)) (now (out .exit)) r ⌝ }
+{
+    if n < 10 {
+        return byte(out, at, (48 + n) as u8);
+    }
+    let p = decimal(out, at, n / 10);
+    byte(out, p, (48 + n % 10) as u8)
+}
+
+// A tab and n.
+pub fn number_field(out: &mut [u8], at: u32, n: u32) -> u32
+    ensures { λ r. ⌜ Wrote (tab ∷ decimal n) at (now (out .entry)) (now (out .exit)) r ⌝ }
+{
+    let p = byte(out, at, 9);
+    decimal(out, p, n)
+}
+
+// A tab and the sign: 0 is `+`.
+pub fn sign_field(out: &mut [u8], at: u32, sign: u32) -> u32
+    ensures { λ r. ⌜ Wrote (tab ∷ fieldText aSign (sign ∷ [])) at (now (out .entry)) (now (out .exit)) r ⌝ }
+{
+    let p = byte(out, at, 9);
+    if sign == 0 {
+        return byte(out, p, 43);
+    }
+    byte(out, p, 45)
+}

@@ -1,0 +1,285 @@
+// What is done to the members of an intersection: redundant negations, contradictions, simplifying.
+use cells::at;
+use cells::get;
+use crate::lists::Flow;
+use crate::lists::Grown;
+use crate::lists::Listed;
+use crate::lists::Members;
+use crate::lists::Part;
+use crate::lists::any_of_kind;
+use crate::lists::grow;
+use crate::lists::is_concrete;
+use crate::lists::is_positive;
+use crate::lists::keep_if;
+use crate::lists::of_kind;
+use crate::lists::refused;
+use crate::lists::sole;
+use lang_ty::arena;
+use lang_ty::arena::OutputTy;
+use lang_ty::arena::Pass;
+use lang_ty::disjoint;
+use lang_ty::primitive;
+
+// Whether what a Neg holds, x, is disjoint from every member with a known constructor.
+fn disjoint_from_all(starts: &[u32], words: &[u32], functor: u32, s: &[u32], n: u32, x: u32) -> bool {
+    let mut i = 0;
+    while i < n {
+        let m = at(s, i);
+        if is_concrete(starts, words, m) && !disjoint::are_shapes_disjoint(starts, words, functor, m, x) {
+            return false;
+        }
+        i += 1;
+    }
+    true
+}
+
+fn any_concrete(starts: &[u32], words: &[u32], s: &[u32], n: u32) -> bool {
+    let mut i = 0;
+    while i < n {
+        if is_concrete(starts, words, at(s, i)) {
+            return true;
+        }
+        i += 1;
+    }
+    false
+}
+
+// remove_redundant_negations
+pub fn remove_redundant_negations(starts: &[u32], words: &[u32], functor: u32, m: Members) -> Members {
+    let ms = m.at;
+    let n = m.count;
+    if !any_concrete(starts, words, &ms, n) {
+        return m;
+    }
+    let mut out = [0u32; 128];
+    let mut k = 0;
+    let mut i = 0;
+    while i < n {
+        let x = at(&ms, i);
+        k = keep_if(&mut out, k, x, !is_redundant(starts, words, functor, &ms, n, x));
+        i += 1;
+    }
+    Members { count: k, at: out }
+}
+
+fn is_redundant(starts: &[u32], words: &[u32], functor: u32, s: &[u32], n: u32, x: u32) -> bool {
+    if !arena::is(starts, words, OutputTy::NEG, x) {
+        return false;
+    }
+    disjoint_from_all(starts, words, functor, s, n, arena::word(starts, words, x, 1))
+}
+
+// is_output_subtype_or_equal
+fn is_output_subtype_or_equal(starts: &[u32], words: &[u32], a: u32, b: u32) -> bool {
+    if a == b {
+        return true;
+    }
+    if !arena::is(starts, words, OutputTy::PRIMITIVE, a) || !arena::is(starts, words, OutputTy::PRIMITIVE, b) {
+        return false;
+    }
+    primitive::is_subtype_of(arena::word(starts, words, a, 1), arena::word(starts, words, b, 1))
+}
+
+// Whether a Neg among the first n cells of s holds x or a wider primitive.
+fn is_negated(starts: &[u32], words: &[u32], s: &[u32], n: u32, x: u32) -> bool {
+    let mut i = 0;
+    while i < n {
+        let m = at(s, i);
+        if arena::is(starts, words, OutputTy::NEG, m)
+            && is_output_subtype_or_equal(starts, words, x, arena::word(starts, words, m, 1))
+        {
+            return true;
+        }
+        i += 1;
+    }
+    false
+}
+
+fn any_negated(starts: &[u32], words: &[u32], s: &[u32], n: u32) -> bool {
+    let mut i = 0;
+    while i < n {
+        let x = at(s, i);
+        if is_positive(starts, words, x) && is_negated(starts, words, s, n, x) {
+            return true;
+        }
+        i += 1;
+    }
+    false
+}
+
+// The positives among the members.
+fn positives(starts: &[u32], words: &[u32], m: Members) -> Members {
+    let ms = m.at;
+    let n = m.count;
+    let mut out = [0u32; 128];
+    let mut k = 0;
+    let mut i = 0;
+    while i < n {
+        let x = at(&ms, i);
+        k = keep_if(&mut out, k, x, is_positive(starts, words, x));
+        i += 1;
+    }
+    Members { count: k, at: out }
+}
+
+// All of one kind, and that not a primitive.
+fn all_same_non_primitive(starts: &[u32], words: &[u32], s: &[u32], n: u32) -> bool {
+    let kind = arena::kind(starts, words, get(s, 0));
+    if n == 0 || kind == OutputTy::PRIMITIVE {
+        return n == 0;
+    }
+    let mut i = 1;
+    while i < n {
+        if !arena::is(starts, words, kind, at(s, i)) {
+            return false;
+        }
+        i += 1;
+    }
+    true
+}
+
+// Whether x is disjoint from one of the cells of s from i up to n.
+fn disjoint_from_one(starts: &[u32], words: &[u32], functor: u32, s: &[u32], from: u32, n: u32, x: u32) -> bool {
+    let mut i = from;
+    while i < n {
+        if disjoint::are_shapes_disjoint(starts, words, functor, x, at(s, i)) {
+            return true;
+        }
+        i += 1;
+    }
+    false
+}
+
+fn any_disjoint_pair(starts: &[u32], words: &[u32], functor: u32, s: &[u32], n: u32) -> bool {
+    let mut i = 0;
+    while i < n {
+        if disjoint_from_one(starts, words, functor, s, i + 1, n, at(s, i)) {
+            return true;
+        }
+        i += 1;
+    }
+    false
+}
+
+// has_type_contradiction
+pub fn has_type_contradiction(starts: &[u32], words: &[u32], functor: u32, m: Members) -> bool {
+    let ms = m.at;
+    if any_negated(starts, words, &ms, m.count) {
+        return true;
+    }
+    let p = positives(starts, words, m);
+    let s = p.at;
+    let n = p.count;
+    if all_same_non_primitive(starts, words, &s, n) {
+        return false;
+    }
+    any_disjoint_pair(starts, words, functor, &s, n)
+}
+
+// The members of x that no Neg among the first n cells of s takes.
+fn spared(starts: &[u32], words: &[u32], s: &[u32], n: u32, x: u32) -> Members {
+    let c = arena::count(starts, words, x);
+    let mut out = [0u32; 128];
+    let mut k = 0;
+    let mut i = 0;
+    while i < c {
+        let u = arena::member(starts, words, x, i);
+        k = keep_if(&mut out, k, u, !is_negated(starts, words, s, n, u));
+        i += 1;
+    }
+    Members { count: k, at: out }
+}
+
+// What simplifying makes of one member.
+fn simplified(starts: &mut [u32], words: &mut [u32], q: Pass, s: &[u32], n: u32, x: u32) -> Part {
+    if !arena::is(starts, words, OutputTy::UNION, x) {
+        return Part::One(x, q);
+    }
+    let m = spared(starts, words, s, n, x);
+    sole(starts, words, q, OutputTy::UNION, m)
+}
+
+// What simplifying makes of member i, put behind the first k cells of out.
+fn simplify_one(starts: &mut [u32], words: &mut [u32], q: Pass, s: &[u32], n: u32, i: u32, out: &mut [u32], k: u32) -> Grown {
+    let part = simplified(starts, words, q, s, n, at(s, i));
+    grow(out, k, part)
+}
+
+// Whether a Neg among the members takes some member of a union among them.
+fn any_taken(starts: &[u32], words: &[u32], s: &[u32], n: u32) -> bool {
+    let mut i = 0;
+    while i < n {
+        let x = at(s, i);
+        if arena::is(starts, words, OutputTy::UNION, x) {
+            let m = spared(starts, words, s, n, x);
+            if m.count < arena::count(starts, words, x) {
+                return true;
+            }
+        }
+        i += 1;
+    }
+    false
+}
+
+// Each member simplified, with what is left of it.
+fn simplify_each(starts: &mut [u32], words: &mut [u32], p: Pass, m: Members) -> Listed {
+    let ms = m.at;
+    let n = m.count;
+    let mut out = [0u32; 128];
+    let mut k = 0;
+    let mut q = p;
+    let mut i = 0;
+    while i < n {
+        match simplify_one(starts, words, q, &ms, n, i, &mut out, k) {
+            Grown::On(more, r) => {
+                k = more;
+                q = r;
+                i += 1;
+            }
+            Grown::Refused(why) => {
+                return refused(why);
+            }
+        }
+    }
+    let found = Members { count: k, at: out };
+    Listed {
+        flow: Flow::On(q),
+        members: found,
+    }
+}
+
+// simplify_union_neg_intersection
+pub fn simplify_union_neg_intersection(
+    starts: &mut [u32],
+    words: &mut [u32],
+    functor: u32,
+    q: Pass,
+    m: Members,
+) -> Listed {
+    if !any_of_kind(starts, words, m, OutputTy::NEG) {
+        return Listed {
+            flow: Flow::On(q),
+            members: m,
+        };
+    }
+    if !any_of_kind(starts, words, m, OutputTy::UNION) {
+        let kept = remove_redundant_negations(starts, words, functor, m);
+        return Listed {
+            flow: Flow::On(q),
+            members: kept,
+        };
+    }
+    let ms = m.at;
+    let changed = any_taken(starts, words, &ms, m.count);
+    let l = simplify_each(starts, words, q, m);
+    if !changed {
+        return l;
+    }
+    let flow = l.flow;
+    let some = of_kind(starts, words, l.members, OutputTy::BOTTOM, false);
+    let kept = remove_redundant_negations(starts, words, functor, some);
+    Listed {
+        flow,
+        members: kept,
+    }
+}

@@ -1,0 +1,229 @@
+// Lists of members by value, and what the functions on them share.
+use cells::add;
+use cells::at;
+use cells::get;
+use cells::place;
+use cells::put;
+use cells::set;
+use lang_ty::arena;
+use lang_ty::arena::Given;
+use lang_ty::arena::OutputTy;
+use lang_ty::arena::Pass;
+use lang_ty::disjoint;
+
+// The first count cells of at; a count above 128 says that there are more than fit.
+pub struct Members {
+    pub count: u32,
+    pub at: [u32; 128],
+}
+
+// A step's pass, or the number of a refusal.
+pub enum Flow {
+    On(Pass),
+    Refused(u32),
+}
+
+pub struct Listed {
+    pub flow: Flow,
+    pub members: Members,
+}
+
+// No member, one, or a refusal.
+pub enum Part {
+    Nothing(Pass),
+    One(u32, Pass),
+    Refused(u32),
+}
+
+pub fn none() -> Members {
+    Members {
+        count: 0,
+        at: [0u32; 128],
+    }
+}
+
+pub fn refused(k: u32) -> Listed {
+    let m = none();
+    Listed {
+        flow: Flow::Refused(k),
+        members: m,
+    }
+}
+
+// Whether x is among the first n cells of s.
+pub fn contains(s: &[u32], n: u32, x: u32) -> bool {
+    let mut i = 0;
+    while i < n {
+        if at(s, i) == x {
+            return true;
+        }
+        i += 1;
+    }
+    false
+}
+
+// x put behind the first k cells of out, if it is to be kept; how many there are then.
+pub fn keep_if(out: &mut [u32], k: u32, x: u32, kept: bool) -> u32 {
+    if !kept {
+        return k;
+    }
+    set(out, k, x);
+    add(k, 1)
+}
+
+pub fn any_of_kind(starts: &[u32], words: &[u32], m: Members, kind: u32) -> bool {
+    let ms = m.at;
+    let n = m.count;
+    let mut i = 0;
+    while i < n {
+        if arena::is(starts, words, kind, at(&ms, i)) {
+            return true;
+        }
+        i += 1;
+    }
+    false
+}
+
+// Neither a Neg nor a TyVar, Bottom or Top.
+pub fn is_positive(starts: &[u32], words: &[u32], x: u32) -> bool {
+    let k = arena::kind(starts, words, x);
+    k != OutputTy::NEG && k != OutputTy::TY_VAR && k != OutputTy::BOTTOM && k != OutputTy::TOP
+}
+
+pub fn is_concrete(starts: &[u32], words: &[u32], x: u32) -> bool {
+    disjoint::is_constructor(arena::kind(starts, words, x))
+}
+
+// Nothing of nothing, a sole member itself, more as one stored node of that kind.
+pub fn sole(starts: &mut [u32], words: &mut [u32], q: Pass, kind: u32, m: Members) -> Part {
+    let ms = m.at;
+    let n = m.count;
+    if n == 0 {
+        return Part::Nothing(q);
+    }
+    if n == 1 {
+        return Part::One(ms[0], q);
+    }
+    match arena::store_list(starts, words, q, kind, &ms, 0, n) {
+        Given::Node(x, r) => Part::One(x, r),
+        Given::Refused(k) => Part::Refused(k),
+    }
+}
+
+// A list that has grown to a count, with the pass; or a refusal.
+pub enum Grown {
+    On(u32, Pass),
+    Refused(u32),
+}
+
+// What is left of a member put behind the first k cells of out.
+pub fn grow(out: &mut [u32], k: u32, p: Part) -> Grown {
+    match p {
+        Part::Nothing(q) => Grown::On(k, q),
+        Part::One(x, q) => {
+            set(out, k, x);
+            Grown::On(add(k, 1), q)
+        }
+        Part::Refused(why) => Grown::Refused(why),
+    }
+}
+
+// The members put behind the first k cells of out; how many there are then.
+fn copy_into(out: &mut [u32], k: u32, m: Members) -> u32 {
+    let ms = m.at;
+    let n = m.count;
+    let mut i = 0;
+    while i < n {
+        put(out, place(k, i), at(&ms, i));
+        i += 1;
+    }
+    add(k, n)
+}
+
+// a followed by b; a count above 128 where they do not fit.
+pub fn joined(a: Members, b: Members) -> Members {
+    let mut out = [0u32; 128];
+    let k = copy_into(&mut out, 0, a);
+    let n = copy_into(&mut out, k, b);
+    Members { count: n, at: out }
+}
+
+pub fn one(x: u32) -> Members {
+    let mut ms = [0u32; 128];
+    ms[0] = x;
+    Members { count: 1, at: ms }
+}
+
+pub fn as_listed(p: Part) -> Listed {
+    match p {
+        Part::Nothing(q) => {
+            let m = none();
+            Listed {
+                flow: Flow::On(q),
+                members: m,
+            }
+        }
+        Part::One(x, q) => {
+            let m = one(x);
+            Listed {
+                flow: Flow::On(q),
+                members: m,
+            }
+        }
+        Part::Refused(k) => refused(k),
+    }
+}
+
+// The members that are of that kind, or those that are not.
+pub fn of_kind(starts: &[u32], words: &[u32], m: Members, kind: u32, wanted: bool) -> Members {
+    let ms = m.at;
+    let n = m.count;
+    let mut out = [0u32; 128];
+    let mut k = 0;
+    let mut i = 0;
+    while i < n {
+        let x = at(&ms, i);
+        k = keep_if(&mut out, k, x, arena::is(starts, words, kind, x) == wanted);
+        i += 1;
+    }
+    Members { count: k, at: out }
+}
+
+// The members and a node behind them.
+pub fn with_last(m: Members, g: Given) -> Listed {
+    match g {
+        Given::Node(x, q) => {
+            let all = joined(m, one(x));
+            Listed {
+                flow: Flow::On(q),
+                members: all,
+            }
+        }
+        Given::Refused(k) => refused(k),
+    }
+}
+
+// should_drop_filler: Bottom, Top, or a TyVar of count or more, or one that is not preserved, as the cells of facts from f on tell.
+fn should_drop_filler(starts: &[u32], words: &[u32], facts: &[u32], f: u32, count: u32, x: u32) -> bool {
+    let k = arena::kind(starts, words, x);
+    if k == OutputTy::TY_VAR {
+        let v = arena::word(starts, words, x, 1);
+        return count <= v || get(facts, place(f, v)) == 0;
+    }
+    k == OutputTy::BOTTOM || k == OutputTy::TOP
+}
+
+// The members that are no fillers.
+pub fn concrete(starts: &[u32], words: &[u32], facts: &[u32], f: u32, count: u32, m: Members) -> Members {
+    let ms = m.at;
+    let n = m.count;
+    let mut out = [0u32; 128];
+    let mut k = 0;
+    let mut i = 0;
+    while i < n {
+        let x = at(&ms, i);
+        k = keep_if(&mut out, k, x, !should_drop_filler(starts, words, facts, f, count, x));
+        i += 1;
+    }
+    Members { count: k, at: out }
+}

@@ -1,0 +1,350 @@
+// Merging: the sets of an intersection become one.
+use cells::add;
+use cells::at;
+use cells::get;
+use cells::place;
+use cells::put;
+use cells::set;
+use crate::lists::Flow;
+use crate::lists::Listed;
+use crate::lists::Members;
+use crate::lists::keep_if;
+use crate::lists::of_kind;
+use crate::lists::refused;
+use crate::lists::with_last;
+use lang_ty::arena;
+use lang_ty::arena::Given;
+use lang_ty::arena::OutputTy;
+use lang_ty::arena::Pass;
+use lang_ty::attrset;
+use lang_ty::disjoint;
+
+// What sets come to so far: fields held at a place, and a dyn or none.
+struct Merging {
+    fields: u32,
+    area: u32,
+    dyns: u32,
+    dyn_type: u32,
+}
+
+impl Merging {
+    // Room for the fields of one set: 1,024 keys with their types.
+    const AREA: u32 = 2048;
+}
+
+enum Merged {
+    On(Merging, Pass),
+    Refused(u32),
+}
+
+// Two types of one key: an earlier TyVar gives way, two that differ are intersected.
+fn meet_types(starts: &mut [u32], words: &mut [u32], q: Pass, old: u32, new: u32) -> Given {
+    if old == new || arena::is(starts, words, OutputTy::TY_VAR, old) {
+        return Given::Node(new, q);
+    }
+    arena::store_both(starts, words, q, OutputTy::INTERSECTION, old, new)
+}
+
+// Key and type put at field i of the area at a.
+fn put_field(held: &mut [u32], a: u32, i: u32, key: u32, ty: u32) {
+    put(held, place(a, add(i, i)), key);
+    put(held, place(a, add(add(i, i), 1)), ty);
+}
+
+fn held_key(held: &[u32], a: u32, i: u32) -> u32 {
+    get(held, place(a, add(i, i)))
+}
+
+fn held_type(held: &[u32], a: u32, i: u32) -> u32 {
+    get(held, place(a, add(add(i, i), 1)))
+}
+
+// Which of two ordered lists has the next key: the old, the new, or both.
+enum Next {
+    Old,
+    New,
+    Both,
+}
+
+// The next of n held fields at a, of which i are taken, and of the m fields of the set at s, of which j are taken.
+fn next_field(words: &[u32], held: &[u32], a: u32, i: u32, n: u32, s: u32, j: u32, m: u32) -> Next {
+    let old = held_key(held, a, i);
+    let new = attrset::key(words, s, j);
+    if j < m && (n <= i || new < old) {
+        return Next::New;
+    }
+    if m <= j || old < new {
+        return Next::Old;
+    }
+    Next::Both
+}
+
+// Field i of those held at a, field j of the set at s, or both met, put as field k of the area at b.
+fn merge_field(
+    starts: &mut [u32],
+    words: &mut [u32],
+    held: &mut [u32],
+    q: Pass,
+    next: Next,
+    a: u32,
+    i: u32,
+    s: u32,
+    j: u32,
+    b: u32,
+    k: u32,
+) -> Flow {
+    let old = held_type(held, a, i);
+    let new = attrset::field_type(words, s, j);
+    match next {
+        Next::Old => {
+            put_field(held, b, k, held_key(held, a, i), old);
+            Flow::On(q)
+        }
+        Next::New => {
+            put_field(held, b, k, attrset::key(words, s, j), new);
+            Flow::On(q)
+        }
+        Next::Both => match meet_types(starts, words, q, old, new) {
+            Given::Node(x, r) => {
+                put_field(held, b, k, held_key(held, a, i), x);
+                Flow::On(r)
+            }
+            Given::Refused(why) => Flow::Refused(why),
+        },
+    }
+}
+
+// One where the old list's field is taken, and where the new one's is.
+fn takes_old(next: Next) -> u32 {
+    match next {
+        Next::New => 0,
+        _ => 1,
+    }
+}
+
+fn takes_new(next: Next) -> u32 {
+    match next {
+        Next::Old => 0,
+        _ => 1,
+    }
+}
+
+// The fields of g merged by key with those of the set at s, into the area at b.
+fn merge_fields(
+    starts: &mut [u32],
+    words: &mut [u32],
+    held: &mut [u32],
+    p: Pass,
+    g: Merging,
+    s: u32,
+    b: u32,
+) -> Merged {
+    let a = g.area;
+    let n = g.fields;
+    let m = attrset::fields(words, s);
+    let most = add(n, m);
+    let mut q = p;
+    let mut i = 0;
+    let mut j = 0;
+    let mut k = 0;
+    while k < most && (i < n || j < m) {
+        let next = next_field(words, held, a, i, n, s, j, m);
+        match merge_field(starts, words, held, q, next, a, i, s, j, b, k) {
+            Flow::On(r) => {
+                q = r;
+                i = add(i, takes_old(next));
+                j = add(j, takes_new(next));
+                k += 1;
+            }
+            Flow::Refused(why) => {
+                return Merged::Refused(why);
+            }
+        }
+    }
+    let more = Merging {
+        fields: k,
+        area: b,
+        dyns: g.dyns,
+        dyn_type: g.dyn_type,
+    };
+    Merged::On(more, q)
+}
+
+fn with_dyn(g: Merging, x: u32) -> Merging {
+    Merging {
+        fields: g.fields,
+        area: g.area,
+        dyns: 1,
+        dyn_type: x,
+    }
+}
+
+// The dyn of g with that of the set at s.
+fn merge_dyn(starts: &mut [u32], words: &mut [u32], q: Pass, g: Merging, s: u32) -> Merged {
+    if attrset::dyns(words, s) == 0 {
+        return Merged::On(g, q);
+    }
+    let old = g.dyn_type;
+    let new = attrset::dyn_type(words, s);
+    if g.dyns == 0 || old == new {
+        return Merged::On(with_dyn(g, new), q);
+    }
+    match arena::store_both(starts, words, q, OutputTy::INTERSECTION, old, new) {
+        Given::Node(x, r) => Merged::On(with_dyn(g, x), r),
+        Given::Refused(k) => Merged::Refused(k),
+    }
+}
+
+// g with the set of node x: dyn first, then the fields in key order. The fields move between the areas at h and behind it.
+fn merge_one(starts: &mut [u32], words: &mut [u32], held: &mut [u32], h: u32, q: Pass, g: Merging, x: u32) -> Merged {
+    let s = disjoint::set_place(starts, x);
+    let first = merge_dyn(starts, words, q, g, s);
+    match first {
+        Merged::On(d, r) => {
+            let a = d.area;
+            let b = if a == h { add(h, Merging::AREA) } else { h };
+            merge_fields(starts, words, held, r, d, s, b)
+        }
+        Merged::Refused(k) => Merged::Refused(k),
+    }
+}
+
+// The sets among the members, merged one after another.
+fn merge_sets(starts: &mut [u32], words: &mut [u32], held: &mut [u32], h: u32, p: Pass, sets: Members) -> Merged {
+    let ms = sets.at;
+    let n = sets.count;
+    let mut g = Merging {
+        fields: 0,
+        area: h,
+        dyns: 0,
+        dyn_type: 0,
+    };
+    let mut q = p;
+    let mut i = 0;
+    while i < n {
+        match merge_one(starts, words, held, h, q, g, at(&ms, i)) {
+            Merged::On(d, r) => {
+                g = d;
+                q = r;
+                i += 1;
+            }
+            Merged::Refused(k) => {
+                return Merged::Refused(k);
+            }
+        }
+    }
+    Merged::On(g, q)
+}
+
+// A key is optional only if optional in every set that has it.
+fn optional_in_all(starts: &[u32], words: &[u32], s: &[u32], n: u32, key: u32) -> bool {
+    let mut i = 0;
+    while i < n {
+        let a = disjoint::set_place(starts, at(s, i));
+        if attrset::has_field(words, a, key) && !attrset::has_optional(words, a, key) {
+            return false;
+        }
+        i += 1;
+    }
+    true
+}
+
+// 1 if all of the sets are open.
+fn open_if_all(starts: &[u32], words: &[u32], s: &[u32], n: u32) -> u32 {
+    let mut i = 0;
+    while i < n {
+        if attrset::open(words, disjoint::set_place(starts, at(s, i))) != 1 {
+            return 0;
+        }
+        i += 1;
+    }
+    1
+}
+
+// Kind, fields and dyn of a set written from t on; how many words that are.
+fn write_fields(words: &mut [u32], t: u32, held: &[u32], g: Merging) -> u32 {
+    let a = g.area;
+    let n = add(g.fields, g.fields);
+    set(words, t, OutputTy::ATTR_SET);
+    put(words, place(t, 1), g.fields);
+    let f = add(t, 2);
+    let mut i = 0;
+    while i < n {
+        put(words, place(f, i), get(held, place(a, i)));
+        i += 1;
+    }
+    let d = add(n, 2);
+    put(words, place(t, d), g.dyns);
+    if g.dyns == 0 {
+        return add(d, 1);
+    }
+    put(words, place(t, add(d, 1)), g.dyn_type);
+    add(d, 2)
+}
+
+fn flag(b: bool) -> u32 {
+    if b { 1 } else { 0 }
+}
+
+// The optional keys of a merged set written from o on; how many there are.
+fn write_optional(starts: &[u32], words: &mut [u32], o: u32, held: &[u32], g: Merging, sets: Members) -> u32 {
+    let s = sets.at;
+    let a = g.area;
+    let n = g.fields;
+    let mut p = o;
+    let mut k = 0;
+    let mut i = 0;
+    while i < n {
+        let key = held_key(held, a, i);
+        let kept = optional_in_all(starts, words, &s, sets.count, key);
+        p = keep_if(words, p, key, kept);
+        k = add(k, flag(kept));
+        i += 1;
+    }
+    k
+}
+
+// The merged set, stored.
+fn store_merged(starts: &mut [u32], words: &mut [u32], held: &[u32], q: Pass, g: Merging, sets: Members) -> Given {
+    let s = sets.at;
+    let t = arena::top(starts, q);
+    let open = open_if_all(starts, words, &s, sets.count);
+    let len = write_fields(words, t, held, g);
+    let o = add(t, len);
+    set(words, o, open);
+    let k = write_optional(starts, words, add(o, 2), held, g, sets);
+    put(words, place(o, 1), k);
+    arena::intern(starts, words, q, add(add(len, 2), k), add(add(g.fields, g.fields), k))
+}
+
+// The merged set stored, behind the other members.
+fn merged_last(starts: &mut [u32], words: &mut [u32], held: &[u32], d: Merged, sets: Members, others: Members) -> Listed {
+    match d {
+        Merged::On(g, q) => {
+            let stored = store_merged(starts, words, held, q, g, sets);
+            with_last(others, stored)
+        }
+        Merged::Refused(k) => refused(k),
+    }
+}
+
+// merge_attrset_intersection: the sets become one, last; held from h on is free for their fields.
+pub fn merge_attrset_intersection(
+    starts: &mut [u32],
+    words: &mut [u32],
+    held: &mut [u32],
+    h: u32,
+    q: Pass,
+    m: Members,
+) -> Listed {
+    let sets = of_kind(starts, words, m, OutputTy::ATTR_SET, true);
+    if sets.count == 0 {
+        return Listed {
+            flow: Flow::On(q),
+            members: m,
+        };
+    }
+    let others = of_kind(starts, words, m, OutputTy::ATTR_SET, false);
+    let d = merge_sets(starts, words, held, h, q, sets);
+    merged_last(starts, words, held, d, sets, others)
+}

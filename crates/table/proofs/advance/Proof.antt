@@ -1,0 +1,10 @@
+use Rattle.table.proofs.Judging.{advance-is}
+use borrow.Author.Needs.{needs}
+use Rattle.table.proofs.advance.Statement.{statement}
+use Rattle.table.proofs.advance.Tie as tie
+
+returns : tie.Need-returns
+returns c = search advance-is
+
+pub advance-spec : {M : Type 1} → statement M
+advance-spec = tie.close (tie.spec (λ c _. search needs) (λ c _. search needs) (λ c. search needs) (λ c. search needs) returns)

@@ -1,0 +1,25 @@
+use Rattle.table.proofs.Entries.{places-are}
+use borrow.Author.Needs.{needs}
+use Rattle.table.proofs.places_of.Statement.{statement}
+use Rattle.table.proofs.places_of.Tie as tie
+
+returns : tie.Need-returns
+returns c = search places-are
+
+pub places-of-spec : {M : Type 1} → statement M
+places-of-spec =
+    tie.close
+    (tie.spec
+    (λ c _. search needs)
+    (λ c. search needs)
+    (λ c. search needs)
+    (λ c. search needs)
+    (λ c _. search needs)
+    (λ c. search needs)
+    (λ c. search needs)
+    (λ c. search needs)
+    (λ c. search needs)
+    (λ c _. search needs)
+    (λ c. search needs)
+    (λ c _. search needs)
+    returns)

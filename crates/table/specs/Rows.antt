@@ -1,0 +1,341 @@
+-- The table as rows: what the rows say, and what the functions ask and ensure.
+use mathlib.Core.Path.{_≡_}
+use mathlib.Core.Bool.{Bool, true, false}
+use Prim.Native.Nat.{ℕ, zero, suc, _+_, _-_, _≤_, _<_}
+use mathlib.Core.List.{List, [], _∷_, _++_, map}
+use lib.ListN.{length, drop}
+use lib.Dec.{eqb, ltb}
+use Rattle.cells.specs.Part.{run, cell, part, if}
+use Rattle.rules.specs.Plain.{both, ascending, before}
+use Rattle.rules.specs.Ceilings.{mostNames, longestName, mostEntries, mostIds, mostPairs, mostMarks, mostRoots}
+use Rattle.rules.specs.Text.{lineFeed, pieces}
+use Rattle.rules.specs.Table.{entryOf, sectionOf, dynPlace, openPlace, kids, asSet, keysAscend, weight, allBelow, inRange, inOrder, rowWeight, stageAfter, frozenEntry, Reading, nothing, Taken, taken, fault, step, Result, accepted, refused, then, lines, known, inTable, tableOf}
+use Rattle.rules.specs.Table as rules
+use Rattle.text.specs.Reads.{span}
+use Rattle.table.specs.declared.Table.{Table}
+use Rattle.table.specs.declared.Places.{Places}
+use Rattle.table.specs.declared.Progress.{Progress}
+use Rattle.table.specs.declared.Answer.{Answer}
+use Rattle.table.specs.declared.Answer.the-variants.{Accepted, Refused}
+use Rattle.table.specs.declared.Verdict.{Verdict}
+use Rattle.table.specs.declared.Verdict.the-variants.{Taken as TakenV, Fault}
+
+-- what stands in a row, k after its kind
+pub record At (w : List ℕ) (from to k r : ℕ) : Type 0 where
+  pub is : r ≡ cell (span w from to) k
+
+pub record Section (kind r : ℕ) : Type 0 where
+  pub is : r ≡ sectionOf kind
+
+-- n cells of a row: those at a, a + step, ..
+abbrev pub every : List ℕ → ℕ → ℕ → ℕ → List ℕ
+every row step a zero = []
+every row step a (suc n) = cell row a ∷ every row step (a + step) n
+
+-- small enough for the last place to be a number of the machine
+pub record Steps (a step n : ℕ) : Type 0 where
+  pub start : a ≤ 68719476736
+  pub stride : step ≤ 2
+  pub count : n ≤ 4294967296
+
+pub record Ascend (w : List ℕ) (from to a step n : ℕ) (r : Bool) : Type 0 where
+  pub is : r ≡ ascending (every (span w from to) step a n)
+
+pub record Below (w : List ℕ) (from to a step n limit : ℕ) (r : Bool) : Type 0 where
+  pub is : r ≡ allBelow limit (every (span w from to) step a n)
+
+pub record Before (w : List ℕ) (a m b t : ℕ) (r : Bool) : Type 0 where
+  pub is : r ≡ before (span w a m) (span w b t)
+
+pub record Present (x r : ℕ) : Type 0 where
+  pub is : r ≡ if (eqb x 0) (λ _. 0) (λ _. 1)
+  pub small : r ≤ 1
+
+-- the places of a set in its row
+pub record PlacedIn (row : List ℕ) (p : Places) : Type 0 where
+  pub fields : p .fields ≡ cell row 1
+  pub dynamic : p .dynamic ≡ dynPlace row 1
+  pub held : p .held ≡ if (eqb (cell row (dynPlace row 1)) 0) (λ _. 0) (λ _. 1)
+  pub opens : p .opens ≡ openPlace row (dynPlace row 1)
+  pub optional : p .optional ≡ cell row (openPlace row (dynPlace row 1) + 1)
+  pub few-fields : p .fields < 4294967296
+  pub low-dynamic : p .dynamic < 17179869184
+  pub few-held : p .held ≤ 1
+  pub low-opens : p .opens < 34359738368
+  pub few-optional : p .optional < 4294967296
+
+pub record Placed (w : List ℕ) (from to : ℕ) (p : Places) : Type 0 where
+  pub is : PlacedIn (span w from to) p
+
+-- of a kind that is neither a variable nor a set
+pub record PlainWeight (kind r : ℕ) : Type 0 where
+  pub is : (kind ≡ 2 → ⊥) → (kind ≡ 7 → ⊥) → (row : List ℕ) → kind ≡ cell row 0 → r ≡ weight (entryOf row)
+  pub small : r ≤ 2
+
+pub record Weight (w : List ℕ) (from to r : ℕ) : Type 0 where
+  pub is : r ≡ weight (entryOf (span w from to))
+  pub small : r < 68719476736
+
+pub record KeysAscend (w : List ℕ) (from to : ℕ) (r : Bool) : Type 0 where
+  pub is : r ≡ keysAscend (asSet (entryOf (span w from to)))
+
+-- the ceilings
+pub record Few (t : Table) : Type 0 where
+  pub names : t .names ≤ mostNames
+  pub entries : t .entries ≤ mostEntries
+  pub pairs : t .pairs ≤ mostPairs
+  pub marks : t .marks ≤ mostMarks
+  pub roots : t .roots ≤ mostRoots
+
+-- one row more of section s
+abbrev pub countRow : Table → ℕ → Table
+countRow t s =
+    if (eqb s 0) (λ _. t)
+    (λ _. if (eqb s 1) (λ _. record { names = t .names + 1; entries = t .entries; pairs = t .pairs; marks = t .marks; roots = t .roots })
+    (λ _. if (eqb s 2) (λ _. record { names = t .names; entries = t .entries + 1; pairs = t .pairs; marks = t .marks; roots = t .roots })
+    (λ _. if (eqb s 3) (λ _. record { names = t .names; entries = t .entries; pairs = t .pairs + 1; marks = t .marks; roots = t .roots })
+    (λ _. if (eqb s 4) (λ _. record { names = t .names; entries = t .entries; pairs = t .pairs; marks = t .marks + 1; roots = t .roots })
+    (λ _. record { names = t .names; entries = t .entries; pairs = t .pairs; marks = t .marks; roots = t .roots + 1 })))))
+
+pub record Counted (t : Table) (s : ℕ) (r : Table) : Type 0 where
+  pub is : r ≡ countRow t s
+
+pub record TooLong (s size : ℕ) (r : Bool) : Type 0 where
+  pub is : r ≡ both (eqb s 1) (λ _. ltb longestName size)
+
+-- a ceiling is passed: rules' `over` on counts
+abbrev pub overBy : Table → ℕ → ℕ → ℕ → Bool
+overBy t ids s size =
+    if (ltb mostNames (t .names)) (λ _. true)
+    (λ _. if (both (eqb s 1) (λ _. ltb longestName size)) (λ _. true)
+    (λ _. if (ltb mostEntries (t .entries)) (λ _. true)
+    (λ _. if (ltb mostIds ids) (λ _. true)
+    (λ _. if (ltb mostPairs (t .pairs)) (λ _. true)
+    (λ _. if (ltb mostMarks (t .marks)) (λ _. true)
+    (λ _. ltb mostRoots (t .roots)))))))
+
+pub record Over (t : Table) (ids s size : ℕ) (r : Bool) : Type 0 where
+  pub is : r ≡ overBy t ids s size
+  pub few : r ≡ false → Few t
+  pub few-ids : r ≡ false → ids ≤ mostIds
+
+pub record InOrder (stage s : ℕ) (r : Bool) : Type 0 where
+  pub is : r ≡ inOrder stage s
+
+-- the new name comes after the last one
+abbrev pub nameAfter : Progress → List ℕ → List ℕ → ℕ → Bool
+nameAfter p s w to =
+    if (eqb (p .table .names) 0) (λ _. true)
+    (λ _. before (span w (cell s (p .table .names) + 1) (p .top)) (span w (p .top + 1) to))
+
+pub record NameAscends (p : Progress) (s w : List ℕ) (to : ℕ) (r : Bool) : Type 0 where
+  pub is : r ≡ nameAfter p s w to
+
+abbrev pub ascendsBy : Progress → List ℕ → List ℕ → ℕ → ℕ → Bool
+ascendsBy p s w to sec =
+    if (eqb sec 1) (λ _. nameAfter p s w to)
+    (λ _. if (eqb sec 2) (λ _. keysAscend (asSet (entryOf (span w (p .top) to)))) (λ _. true))
+
+pub record Ascends (p : Progress) (s w : List ℕ) (to sec : ℕ) (r : Bool) : Type 0 where
+  pub is : r ≡ ascendsBy p s w to sec
+
+pub record RowWeight (w : List ℕ) (from to s r : ℕ) : Type 0 where
+  pub is : r ≡ rowWeight s (span w from to)
+  pub small : r < 68719476736
+
+pub record Size (from to r : ℕ) : Type 0 where
+  pub is : r ≡ (to - from) - 1
+
+pub record StageAfter (s r : ℕ) : Type 0 where
+  pub is : r ≡ stageAfter s
+
+-- what was read keeps to the ceilings and to the order of sections
+pub record Fine (p : Progress) : Type 0 where
+  pub few : Few (p .table)
+  pub few-ids : p .ids ≤ mostIds
+  pub low : p .top ≤ 65536
+  pub few-lines : p .lines ≤ 5697
+  pub unbegun : p .stage ≡ 0 → p .lines ≡ 0
+  pub begun : (p .stage ≡ 0 → ⊥) → p .lines ≡ 1 + p .table .names + p .table .entries + p .table .pairs + p .table .marks + p .table .roots
+  pub no-names : p .stage ≤ 0 → p .table .names ≡ 0
+  pub no-entries : p .stage ≤ 1 → p .table .entries ≡ 0
+  pub no-pairs : p .stage ≤ 2 → p .table .pairs ≡ 0
+  pub no-marks : p .stage ≤ 3 → p .table .marks ≡ 0
+  pub no-roots : p .stage ≤ 4 → p .table .roots ≡ 0
+
+abbrev pub advanceBy : Progress → ℕ → ℕ → ℕ → Progress
+advanceBy p s ids to = record { stage = stageAfter s; lines = p .lines + 1; top = to; ids = p .ids + ids; table = countRow (p .table) s }
+
+pub record Advanced (p : Progress) (s ids to : ℕ) (r : Progress) : Type 0 where
+  pub is : r ≡ advanceBy p s ids to
+
+-- rules' `admit` on counts, of a row of section s
+abbrev pub judgeBy : Progress → List ℕ → List ℕ → ℕ → ℕ → Verdict
+judgeBy p s w to sec =
+    if (inOrder (p .stage) sec)
+    (λ _. if (overBy (countRow (p .table) sec) (p .ids + rowWeight sec (span w (p .top) to)) sec ((to - p .top) - 1)) (λ _. Fault 2)
+    (λ _. if (ascendsBy p s w to sec)
+    (λ _. if (eqb (cell (span w (p .top) to) 0) frozenEntry) (λ _. Fault 5) (λ _. TakenV (advanceBy p sec (rowWeight sec (span w (p .top) to)) to)))
+    (λ _. Fault 4)))
+    (λ _. Fault 1)
+
+-- what is known of a row that is taken
+pub record Passed (p : Progress) (to : ℕ) (q : Progress) : Type 0 where
+  pub few : Few (q .table)
+  pub few-ids : q .ids ≤ mostIds
+  pub lines : q .lines ≡ p .lines + 1
+  pub top : q .top ≡ to
+
+abbrev pub Admitted : Progress → ℕ → Verdict → Type 0
+Admitted p to (TakenV q) = Passed p to q
+Admitted p to (Fault k) = Unit {0}
+
+pub record Judged (p : Progress) (s w : List ℕ) (to : ℕ) (r : Verdict) : Type 0 where
+  pub is : r ≡ judgeBy p s w to (sectionOf (cell (span w (p .top) to) 0))
+  pub admitted : Admitted p to r
+
+-- row i
+abbrev pub rowAt : List ℕ → List ℕ → ℕ → List ℕ
+rowAt s w i = span w (cell s i) (cell s (i + 1))
+
+-- rows without the number of their kind
+abbrev pub bare : List (List ℕ) → List (List ℕ)
+bare rs = map (drop 1) rs
+
+abbrev pub tableAt : ℕ → Table → List ℕ → List ℕ → rules.Table
+tableAt b t s w = record {
+  budget = b;
+  names = bare (run (rowAt s w) 1 (t .names));
+  entries = run (rowAt s w) (1 + t .names) (t .entries);
+  pairs = bare (run (rowAt s w) (1 + t .names + t .entries) (t .pairs));
+  marks = bare (run (rowAt s w) (1 + t .names + t .entries + t .pairs) (t .marks));
+  roots = bare (run (rowAt s w) (1 + t .names + t .entries + t .pairs + t .marks) (t .roots));
+}
+
+-- the table that the rows are
+unfoldable pub tableFrom : Table → List ℕ → List ℕ → rules.Table
+tableFrom t s w = tableAt (cell (rowAt s w 0) 1) t s w
+
+-- what the code answers, with the rows that it left
+abbrev pub outcome : Answer → List ℕ → List ℕ → Result rules.Table
+outcome (Accepted t) s w = accepted (tableFrom t s w)
+outcome (Refused k l) s w = refused k l
+
+-- how many rows there are
+abbrev pub rows : Table → ℕ
+rows t = 1 + t .names + t .entries + t .pairs + t .marks + t .roots
+
+-- the rows stand one after the other, within the words
+pub record Laid (t : Table) (s : List ℕ) : Type 0 where
+  pub few : Few t
+  pub order : (i : ℕ) → i < rows t → cell s i ≤ cell s (i + 1)
+  pub within : (i : ℕ) → i ≤ rows t → cell s i ≤ 65536
+
+abbrev pub LaidBy : Answer → List ℕ → Type 0
+LaidBy (Accepted t) s = Laid t s
+LaidBy (Refused k l) s = Unit {0}
+
+-- what is lent to read a text
+pub record Lent (places room : ℕ) (s w : List ℕ) : Type 0 where
+  pub long-s : places ≤ length s
+  pub long-w : room ≤ length w
+
+-- no row yet
+pub record Begun (s w : List ℕ) : Type 0 where
+  pub places : 5698 ≤ length s
+  pub room : 65536 ≤ length w
+  pub none-yet : cell s 0 ≡ 0
+
+-- the reading before the budget line has budget 0
+abbrev pub budgetBy : ℕ → List ℕ → List ℕ → ℕ
+budgetBy stage s w = if (eqb stage 0) (λ _. 0) (λ _. cell (rowAt s w 0) 1)
+
+-- what was read so far, as the rules have it
+abbrev pub readingOf : Progress → List ℕ → List ℕ → Reading
+readingOf p s w = record { stage = p .stage; ids = p .ids; table = tableAt (budgetBy (p .stage) s w) (p .table) s w }
+
+abbrev pub takenOf : Verdict → List ℕ → List ℕ → Taken
+takenOf (TakenV p) s w = taken (readingOf p s w)
+takenOf (Fault k) s w = fault k
+
+-- the rows so far stand one after the other and end at top
+pub record Layout (p : Progress) (s : List ℕ) : Type 0 where
+  pub ends : cell s (p .lines) ≡ p .top
+  pub order : (i : ℕ) → i < p .lines → cell s i ≤ cell s (i + 1)
+  pub within : (i : ℕ) → i ≤ p .lines → cell s i ≤ p .top
+
+-- what a line asks
+pub record Ready (text : List ℕ) (from to : ℕ) (s w : List ℕ) (p : Progress) : Type 0 where
+  pub fine : Fine p
+  pub layout : Layout p s
+  pub order : from ≤ to
+  pub ended : to < length text
+  pub short : length text ≤ 65536
+  pub low : p .top ≤ from
+  pub places : 5698 ≤ length s
+  pub room : 65536 ≤ length w
+
+-- q is p with one row more
+pub record Went (p : Progress) (to : ℕ) (s : List ℕ) (q : Progress) : Type 0 where
+  pub fine : Fine q
+  pub layout : Layout q s
+  pub low : q .top ≤ to + 1
+  pub lines : q .lines ≡ p .lines + 1
+
+abbrev pub Goes : Progress → ℕ → List ℕ → Verdict → Type 0
+Goes p to s (TakenV q) = Went p to s q
+Goes p to s (Fault k) = Unit {0}
+
+pub record Lined (text : List ℕ) (from to : ℕ) (p : Progress) (s w s′ w′ : List ℕ) (r : Verdict) : Type 0 where
+  pub is : takenOf r s′ w′ ≡ step (readingOf p s w) (span text from to)
+  pub goes : Goes p to s′ r
+  pub long-s : length s′ ≡ length s
+  pub long-w : length w′ ≡ length w
+
+pub record Lines (text s w : List ℕ) (r : Answer) : Type 0 where
+  pub is : outcome r s w ≡ lines 1 nothing (pieces lineFeed text)
+  pub laid : LaidBy r s
+
+pub record VarKnown (w : List ℕ) (from to n : ℕ) (r : Bool) : Type 0 where
+  pub is : r ≡ allBelow n (kids (rules.var (part (span w from to) 2 (cell (span w from to) 1)) (part (span w from to) (3 + cell (span w from to) 1) (cell (span w from to) (2 + cell (span w from to) 1)))))
+
+pub record SetKnown (w : List ℕ) (from to n : ℕ) (r : Bool) : Type 0 where
+  pub is : r ≡ allBelow n (rules.attrKids (rules.attrAt (span w from to) 1))
+
+pub record KeysKnown (w : List ℕ) (from to names : ℕ) (r : Bool) : Type 0 where
+  pub is : r ≡ allBelow names (rules.fieldKeys (rules.attrAt (span w from to) 1 .fields) ++ rules.attrAt (span w from to) 1 .optional)
+
+pub record NamedKnown (w : List ℕ) (from to n names : ℕ) (r : Bool) : Type 0 where
+  pub is : r ≡ both (allBelow n (cell (span w from to) 2 ∷ [])) (λ _. allBelow names (cell (span w from to) 1 ∷ []))
+
+-- of a kind that is neither a variable nor a set
+pub record PlainKnown (w : List ℕ) (from to kind n names : ℕ) (r : Bool) : Type 0 where
+  pub is : (kind ≡ 2 → ⊥) → (kind ≡ 7 → ⊥) → kind ≡ cell (span w from to) 0 → r ≡ inRange n names (entryOf (span w from to))
+
+pub record EntryKnown (w : List ℕ) (from to n names : ℕ) (r : Bool) : Type 0 where
+  pub is : r ≡ inRange n names (entryOf (span w from to))
+
+-- the table, where every row passes the test
+abbrev pub unless : Result (Unit {0}) → Table → List ℕ → List ℕ → Result rules.Table
+unless m t s w = then m (λ _. accepted (tableFrom t s w))
+
+-- an answer that accepts is of the table asked for
+abbrev pub Kept : Table → Answer → Type 0
+Kept t (Accepted u) = u ≡ t
+Kept t (Refused k l) = Unit {0}
+
+pub record EntriesKnown (s w : List ℕ) (t : Table) (r : Answer) : Type 0 where
+  pub is : outcome r s w ≡ unless (known (λ (row : List ℕ). inRange (t .entries) (t .names) (entryOf row)) (2 + t .names) (run (rowAt s w) (1 + t .names) (t .entries))) t s w
+
+pub record RootsKnown (s w : List ℕ) (t : Table) (r : Answer) : Type 0 where
+  pub is : outcome r s w ≡ unless (known (λ (row : List ℕ). ltb (cell row 0) (t .entries)) (2 + t .names + t .entries + t .pairs + t .marks) (bare (run (rowAt s w) (1 + t .names + t .entries + t .pairs + t .marks) (t .roots)))) t s w
+  pub kept : Kept t r
+
+pub record Known (s w : List ℕ) (t : Table) (r : Answer) : Type 0 where
+  pub is : outcome r s w ≡ inTable (tableFrom t s w)
+  pub kept : Kept t r
+
+-- a text read: what is answered, with the rows left, is what the text says
+pub record Read (text s w : List ℕ) (r : Answer) : Type 0 where
+  pub is : outcome r s w ≡ tableOf text
+  pub laid : LaidBy r s

@@ -1,0 +1,7 @@
+pub mod Spans
+pub mod Follow
+pub mod Leaves
+pub mod Naming
+pub mod Lists
+pub mod Fields
+pub mod Shaping
