@@ -21,7 +21,7 @@ use Rattle.table.specs.declared.Progress.{Progress}
 use Rattle.table.specs.declared.Verdict.{Verdict}
 use Rattle.table.specs.declared.Verdict.the-variants.{Taken as TakenV, Fault}
 use Rattle.table.specs.Rows.{countRow, overBy, nameAfter, ascendsBy, Fine, advanceBy, judgeBy, rowAt, bare, tableAt, budgetBy, readingOf, Layout}
-use Rattle.table.proofs.Growing.{begun-in-order, built}
+use Rattle.table.proofs.Growing.{begun-in-order, built, bare-snoc}
 
 pub zero-or : (n : ℕ) → (n ≡ 0) ⊎ (n ≡ 0 → ⊥)
 zero-or zero = inl refl
@@ -78,7 +78,7 @@ lengths-add t s row =
     (map-if lengthsOf (eqb s 4) _ _ _ _ (λ i. record { names = length (t .names); entries = length (t .entries); pairs = length (t .pairs); marks = length-append (t .marks) (drop 1 row ∷ []) i; roots = length (t .roots) })
     (λ i. record { names = length (t .names); entries = length (t .entries); pairs = length (t .pairs); marks = length (t .marks); roots = length-append (t .roots) (drop 1 row ∷ []) i })))))
 
-bare-length : (s w : List ℕ) (a n : ℕ) → length (bare (run (rowAt s w) a n)) ≡ n
+pub bare-length : (s w : List ℕ) (a n : ℕ) → length (bare (run (rowAt s w) a n)) ≡ n
 bare-length s w a n = length-map (run (rowAt s w) a n) (drop 1) ∙ run-length (rowAt s w) a n
 
 lengths-at : (b : ℕ) (t : Table) (s w : List ℕ) → lengthsOf (tableAt b t s w) ≡ t
@@ -102,10 +102,6 @@ after-last : (xs : List (List ℕ)) (l new : List ℕ) → afterLast (xs ++ (l �
 after-last [] l new = refl
 after-last (x ∷ []) l new = refl
 after-last (x ∷ y ∷ xs) l new = after-last (y ∷ xs) l new
-
-bare-snoc : (rs : List (List ℕ)) (r : List ℕ) → bare (rs ++ (r ∷ [])) ≡ bare rs ++ (drop 1 r ∷ [])
-bare-snoc [] r = refl
-bare-snoc (x ∷ rs) r = ap (λ (l : List (List ℕ)). drop 1 x ∷ l) (bare-snoc rs r)
 
 drop-one : (f : ℕ → ℕ) (a n : ℕ) → drop 1 (run f a n) ≡ run f (a + 1) (n - 1)
 drop-one f a zero = refl

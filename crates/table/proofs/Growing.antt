@@ -32,7 +32,7 @@ begun-in-order stage sec h = ⊎-elim (λ q. absurd (let e = q .1 in let z : ⊥
 pub built : {b b′ : ℕ} {n n′ e e′ p p′ m m′ r r′ : List (List ℕ)} → b ≡ b′ → n ≡ n′ → e ≡ e′ → p ≡ p′ → m ≡ m′ → r ≡ r′ → _≡_ {A = rules.Table} (record { budget = b; names = n; entries = e; pairs = p; marks = m; roots = r }) (record { budget = b′; names = n′; entries = e′; pairs = p′; marks = m′; roots = r′ })
 built x n e p m r = λ i. record { budget = x i; names = n i; entries = e i; pairs = p i; marks = m i; roots = r i }
 
-bare-snoc : (rs : List (List ℕ)) (r : List ℕ) → bare (rs ++ (r ∷ [])) ≡ bare rs ++ (drop 1 r ∷ [])
+pub bare-snoc : (rs : List (List ℕ)) (r : List ℕ) → bare (rs ++ (r ∷ [])) ≡ bare rs ++ (drop 1 r ∷ [])
 bare-snoc [] r = refl
 bare-snoc (x ∷ rs) r = ap (λ (l : List (List ℕ)). drop 1 x ∷ l) (bare-snoc rs r)
 

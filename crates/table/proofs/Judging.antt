@@ -1,20 +1,20 @@
 -- Sections, counts, ceilings, and what is said of a row. Assumes nothing.
-use mathlib.Core.Path.{_≡_, sym, ap, ap₂, _∙_}
+use mathlib.Core.Path.{_≡_, refl, sym, ap, ap₂, _∙_}
 use mathlib.Core.Bool.{Bool, true, false}
 use Prim.Native.Nat.{ℕ, _+_, _-_, _≤_, _<_}
 use native.Mathlib.Omega.{arith}
 use mathlib.Core.List.{List}
 use lib.Dec.{eqb, ltb, leb}
 use borrow.Author.Tests.{lt-ltb, le-ltb, eq-eqb, ne-eqb, ltb-false}
-use Rattle.cells.specs.Part.{cell}
-use Rattle.rules.specs.Plain.{before}
+use Rattle.cells.specs.Part.{cell, if}
+use Rattle.rules.specs.Plain.{before, both}
 use Rattle.rules.specs.Table.{sectionOf, rowWeight}
 use Rattle.text.specs.Reads.{span}
 use Rattle.table.specs.declared.Table.{Table}
 use Rattle.table.specs.declared.Progress.{Progress}
 use Rattle.table.specs.declared.Verdict.{Verdict}
 use Rattle.table.specs.declared.Verdict.the-variants.{Taken, Fault}
-use Rattle.table.specs.Rows.{At, Section, Before, Weight, KeysAscend, countRow, Counted, TooLong, overBy, Over, InOrder, NameAscends, Ascends, RowWeight, Size, StageAfter, advanceBy, Advanced, judgeBy, Judged}
+use Rattle.table.specs.Rows.{At, Section, Before, Weight, KeysAscend, countRow, Counted, NamesOver, EntriesOver, RestOver, overBy, Over, InOrder, NameAscends, Ascends, RowWeight, Size, StageAfter, advanceBy, Advanced, judgeBy, Judged}
 
 module _ {kind : ℕ} where
   pub section-low : kind < 2 → Section kind kind
@@ -52,50 +52,81 @@ module _ {t : Table} {s : ℕ} where
           pub count-5 : (s ≡ 4 → ⊥) → Counted t s (record { names = t .names; entries = t .entries; pairs = t .pairs; marks = t .marks; roots = t .roots + 1 })
           count-5 n4 = record { is = simp (ne-eqb s 0 n0, ne-eqb s 1 n1, ne-eqb s 2 n2, ne-eqb s 3 n3, ne-eqb s 4 n4) }
 
-module _ {s size : ℕ} where
-  pub long-name : s ≡ 1 → TooLong s size (ltb 255 size)
-  long-name e = record { is = simp (eq-eqb s 1 e) }
-
-  pub no-name : (s ≡ 1 → ⊥) → TooLong s size false
-  no-name e = record { is = simp (ne-eqb s 1 e) }
-
 -- a test that was passed is not failed
 never : {A : Type 0} → true ≡ false → A
 never e = absurd (let z : _≡_ {A = ℕ} 0 1 = cc in omega arith)
 
-over-yes : {t : Table} {ids s size : ℕ} → true ≡ overBy t ids s size → Over t ids s size true
-over-yes e = record { is = e; few = λ q. never q; few-ids = λ q. never q }
+module _ {t : Table} {s size : ℕ} where
+  pub names-many : 1024 < t .names → NamesOver 1024 255 t s size true
+  names-many h = record { is = simp (lt-ltb 1024 (t .names) h); few = λ q. never q }
 
-module _ {t : Table} {ids s size : ℕ} where
-  pub over-names : 1024 < t .names → Over t ids s size true
-  over-names h = over-yes (simp (lt-ltb 1024 (t .names) h))
+  pub names-long : t .names ≤ 1024 → s ≡ 1 → NamesOver 1024 255 t s size (ltb 255 size)
+  names-long h e = record { is = simp (le-ltb 1024 (t .names) h, eq-eqb s 1 e); few = λ q. h }
 
-  module _ {b : Bool} (a : t .names ≤ 1024) (l : TooLong s size b) where
-    pub over-long : b ≡ true → Over t ids s size true
-    over-long h = over-yes (simp (le-ltb 1024 (t .names) a, sym (l .is) ∙ h))
+  pub names-fine : t .names ≤ 1024 → (s ≡ 1 → ⊥) → NamesOver 1024 255 t s size false
+  names-fine h e = record { is = simp (le-ltb 1024 (t .names) h, ne-eqb s 1 e); few = λ q. h }
 
-    module _ (c : b ≡ false) where
-      pub over-entries : 2048 < t .entries → Over t ids s size true
-      over-entries h = over-yes (simp (le-ltb 1024 (t .names) a, sym (l .is) ∙ c, lt-ltb 2048 (t .entries) h))
+module _ {t : Table} {ids : ℕ} where
+  pub entries-many : 2048 < t .entries → EntriesOver 2048 8192 t ids true
+  entries-many h = record { is = simp (lt-ltb 2048 (t .entries) h); few = λ q. never q; few-ids = λ q. never q }
 
-      module _ (d : t .entries ≤ 2048) where
-        pub over-ids : 8192 < ids → Over t ids s size true
-        over-ids h = over-yes (simp (le-ltb 1024 (t .names) a, sym (l .is) ∙ c, le-ltb 2048 (t .entries) d, lt-ltb 8192 ids h))
+  pub entries-fine : t .entries ≤ 2048 → EntriesOver 2048 8192 t ids (ltb 8192 ids)
+  entries-fine h = record { is = simp (le-ltb 2048 (t .entries) h); few = λ q. h; few-ids = λ q. ltb-false 8192 ids q }
 
-        module _ (e : ids ≤ 8192) where
-          pub over-pairs : 2048 < t .pairs → Over t ids s size true
-          over-pairs h = over-yes (simp (le-ltb 1024 (t .names) a, sym (l .is) ∙ c, le-ltb 2048 (t .entries) d, le-ltb 8192 ids e, lt-ltb 2048 (t .pairs) h))
+module _ {t : Table} where
+  pub pairs-many : 2048 < t .pairs → RestOver 2048 512 64 t true
+  pairs-many h = record { is = simp (lt-ltb 2048 (t .pairs) h); few-pairs = λ q. never q; few-marks = λ q. never q; few-roots = λ q. never q }
 
-          module _ (f : t .pairs ≤ 2048) where
-            pub over-marks : 512 < t .marks → Over t ids s size true
-            over-marks h = over-yes (simp (le-ltb 1024 (t .names) a, sym (l .is) ∙ c, le-ltb 2048 (t .entries) d, le-ltb 8192 ids e, le-ltb 2048 (t .pairs) f, lt-ltb 512 (t .marks) h))
+  pub marks-many : t .pairs ≤ 2048 → 512 < t .marks → RestOver 2048 512 64 t true
+  marks-many g h = record { is = simp (le-ltb 2048 (t .pairs) g, lt-ltb 512 (t .marks) h); few-pairs = λ q. never q; few-marks = λ q. never q; few-roots = λ q. never q }
 
-            pub over-roots : t .marks ≤ 512 → Over t ids s size (ltb 64 (t .roots))
-            over-roots g = record {
-              is = simp (le-ltb 1024 (t .names) a, sym (l .is) ∙ c, le-ltb 2048 (t .entries) d, le-ltb 8192 ids e, le-ltb 2048 (t .pairs) f, le-ltb 512 (t .marks) g);
-              few = λ q. record { names = a; entries = d; pairs = f; marks = g; roots = ltb-false 64 (t .roots) q };
-              few-ids = λ q. e;
-            }
+  pub rest-fine : t .pairs ≤ 2048 → t .marks ≤ 512 → RestOver 2048 512 64 t (ltb 64 (t .roots))
+  rest-fine g h = record { is = simp (le-ltb 2048 (t .pairs) g, le-ltb 512 (t .marks) h); few-pairs = λ q. g; few-marks = λ q. h; few-roots = λ q. ltb-false 64 (t .roots) q }
+
+-- a or b or c, however it is bracketed
+either : (a b c : Bool) → if (if a (λ _. true) (λ _. b)) (λ _. true) (λ _. c) ≡ if a (λ _. true) (λ _. if b (λ _. true) (λ _. c))
+either true b c = refl
+either false b c = refl
+
+abbrev restBy : Table → Bool
+restBy t = if (ltb 2048 (t .pairs)) (λ _. true) (λ _. if (ltb 512 (t .marks)) (λ _. true) (λ _. ltb 64 (t .roots)))
+
+abbrev tailBy : Table → ℕ → Bool
+tailBy t ids = if (ltb 2048 (t .entries)) (λ _. true) (λ _. if (ltb 8192 ids) (λ _. true) (λ _. restBy t))
+
+names-then : (t : Table) (ids s size : ℕ) (x : Bool) → NamesOver 1024 255 t s size x → if x (λ _. true) (λ _. tailBy t ids) ≡ overBy t ids s size
+names-then t ids s size x a = ap (λ (u : Bool). if u (λ _. true) (λ _. tailBy t ids)) (a .is) ∙ either (ltb 1024 (t .names)) (both (eqb s 1) (λ _. ltb 255 size)) (tailBy t ids)
+
+entries-then : (t : Table) (ids : ℕ) (y : Bool) → EntriesOver 2048 8192 t ids y → if y (λ _. true) (λ _. restBy t) ≡ tailBy t ids
+entries-then t ids y b = ap (λ (u : Bool). if u (λ _. true) (λ _. restBy t)) (b .is) ∙ either (ltb 2048 (t .entries)) (ltb 8192 ids) (restBy t)
+
+module _ {t : Table} {ids s size : ℕ} {x : Bool} (a : NamesOver 1024 255 t s size x) where
+  pub over-names : x ≡ true → Over t ids s size true
+  over-names h = record { is = ap (λ (u : Bool). if u (λ _. true) (λ _. tailBy t ids)) (sym h) ∙ names-then t ids s size x a; few = λ q. never q; few-ids = λ q. never q }
+
+  module _ {y : Bool} (h : x ≡ false) (b : EntriesOver 2048 8192 t ids y) where
+    pub over-entries : y ≡ true → Over t ids s size true
+    over-entries g = record {
+      is =
+          ap (λ (u : Bool). if u (λ _. true) (λ _. restBy t)) (sym g)
+          ∙ entries-then t ids y b
+          ∙ ap (λ (u : Bool). if u (λ _. true) (λ _. tailBy t ids)) (sym h)
+          ∙ names-then t ids s size x a;
+      few = λ q. never q;
+      few-ids = λ q. never q;
+    }
+
+    pub over-rest : {z : Bool} → y ≡ false → RestOver 2048 512 64 t z → Over t ids s size z
+    over-rest g c = record {
+      is =
+          c .is
+          ∙ ap (λ (u : Bool). if u (λ _. true) (λ _. restBy t)) (sym g)
+          ∙ entries-then t ids y b
+          ∙ ap (λ (u : Bool). if u (λ _. true) (λ _. tailBy t ids)) (sym h)
+          ∙ names-then t ids s size x a;
+      few = λ q. record { names = a .few h; entries = b .few g; pairs = c .few-pairs q; marks = c .few-marks q; roots = c .few-roots q };
+      few-ids = λ q. b .few-ids g;
+    }
 
 module _ {stage s : ℕ} where
   pub order-first : stage ≡ 0 → InOrder stage s (eqb s 0)

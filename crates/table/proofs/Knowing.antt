@@ -185,14 +185,14 @@ known-if : (b : Bool) (x y z : Result (Unit {0})) → x ≡ y → if b (λ _. x)
 known-if true x y z h = h
 known-if false x y z h = refl
 
-known-bare : (P : List ℕ → Bool) (k : ℕ) (rs : List (List ℕ)) → known P k (bare rs) ≡ known (λ (row : List ℕ). P (drop 1 row)) k rs
+pub known-bare : (P : List ℕ → Bool) (k : ℕ) (rs : List (List ℕ)) → known P k (bare rs) ≡ known (λ (row : List ℕ). P (drop 1 row)) k rs
 known-bare P k [] = refl
 known-bare P k (r ∷ rs) = known-if (P (drop 1 r)) (known P (suc k) (bare rs)) (known (λ (row : List ℕ). P (drop 1 row)) (suc k) rs) (refused 3 k) (known-bare P (suc k) rs)
 
 abbrev pub wholeTest : Table → List ℕ → Bool
 wholeTest t row = rootTest t (drop 1 row)
 
-second : (row : List ℕ) → cell (drop 1 row) 0 ≡ cell row 1
+pub second : (row : List ℕ) → cell (drop 1 row) 0 ≡ cell row 1
 second [] = refl
 second (x ∷ row) = refl
 

@@ -1,3 +1,4 @@
+-- Lemmas, from the cells up; callers cite Facts.
 pub mod Cells
 pub mod Entries
 pub mod Judging
@@ -6,3 +7,4 @@ pub mod Growing
 pub mod Admitting
 pub mod Lines
 pub mod Whole
+pub mod Facts

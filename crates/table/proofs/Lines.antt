@@ -22,7 +22,7 @@ use Rattle.table.specs.declared.Progress.{Progress}
 use Rattle.table.specs.declared.Answer.the-variants.{Accepted, Refused}
 use Rattle.table.specs.declared.Verdict.{Verdict}
 use Rattle.table.specs.declared.Verdict.the-variants.{Taken as TakenV, Fault}
-use Rattle.table.specs.Rows.{Few, countRow, overBy, ascendsBy, Fine, advanceBy, Admitted, Judged, tableFrom, readingOf, takenOf, Layout, Ready, Went, Goes, Lined, Begun, Lines}
+use Rattle.table.specs.Rows.{Few, countRow, overBy, ascendsBy, Fine, advanceBy, Admitted, Judged, tableFrom, readingOf, takenOf, Layout, Ready, Went, Goes, Lined, untouched, Unread, Begun, Lines}
 use Rattle.table.proofs.Growing.{grown, fine-grown, laid-grown}
 use Rattle.table.proofs.Admitting.{reading-same, said, passed, admitted-by}
 
@@ -142,11 +142,8 @@ pub record Walking (text s₀ w₀ s w : List ℕ) (from : ℕ) (p : Progress) :
   pub long-w : length w ≡ length w₀
   pub is : lines (p .lines + 1) (readingOf p s w) (pieces 10 (span text from (length text))) ≡ lines 1 nothing (pieces 10 text)
 
-abbrev pub unread : Progress
-unread = record { stage = 0; lines = 0; top = 0; ids = 0; table = record { names = 0; entries = 0; pairs = 0; marks = 0; roots = 0 } }
-
-pub walk-start : {text s w : List ℕ} → Begun s w → Walking text s w s w 0 unread
-walk-start {text} {s} {w} h = record {
+start : (text s w : List ℕ) → Begun s w → Walking text s w s w 0 untouched
+start text s w h = record {
   fine = record { few = record { names = omega arith; entries = omega arith; pairs = omega arith; marks = omega arith; roots = omega arith }; few-ids = omega arith; low = omega arith; few-lines = omega arith; unbegun = λ e. refl; begun = λ e. absurd (e refl); no-names = λ e. refl; no-entries = λ e. refl; no-pairs = λ e. refl; no-marks = λ e. refl; no-roots = λ e. refl };
   layout = record { ends = h .none-yet; order = λ i lt. omega arith; within = λ i le. let e : i ≡ 0 = omega arith in let q = ap (cell s) e in omega (arith, h .none-yet) };
   low = omega arith;
@@ -157,6 +154,9 @@ walk-start {text} {s} {w} h = record {
   long-w = refl;
   is = ap (λ (l : List ℕ). lines 1 nothing (pieces 10 l)) (span-whole text);
 }
+
+pub walk-start : {text s w : List ℕ} {p : Progress} → Begun s w → Unread p → Walking text s w s w 0 p
+walk-start {text} {s} {w} h e = subst (Walking text s w s w 0) (sym (e .is)) (start text s w h)
 
 module _ {text s₀ w₀ s w : List ℕ} {from : ℕ} {p : Progress} (inv : Walking text s₀ w₀ s w from p) where
   pub walk-lines : p .lines ≤ 5697

@@ -3,7 +3,7 @@ use mathlib.Core.Path.{_≡_, sym, ap, _∙_, subst}
 use Prim.Native.Nat.{ℕ, _+_, _≤_, _<_}
 use native.Mathlib.Omega.{arith}
 use mathlib.Core.List.{List}
-use lib.ListN.{length, set, drop, length-set, length-map}
+use lib.ListN.{length, set, length-set}
 use lib.Seq.{getD-set-same}
 use lib.Dec.{ltb}
 use borrow.Author.Tests.{lt-ltb, le-ltb}
@@ -15,6 +15,7 @@ use Rattle.table.specs.declared.Table.{Table}
 use Rattle.table.specs.declared.Answer.{Answer}
 use Rattle.table.specs.declared.Answer.the-variants.{Accepted, Refused}
 use Rattle.table.specs.Rows.{Few, rowAt, bare, tableFrom, outcome, Laid, LaidBy, Lent, Begun, Lines, unless, Kept, EntriesKnown, RootsKnown, Known, Read}
+use Rattle.table.proofs.Admitting.{bare-length}
 use Rattle.table.proofs.Knowing.{entryTest, rootTest, rootRow}
 
 pub read-long : {text s w : List ℕ} → 65536 < length text → Read text s w (Refused 2 0)
@@ -31,11 +32,8 @@ read-begun {s} h = record {
 pub read-few : {text s w : List ℕ} {a : Answer} {t : Table} → Lines text s w a → a ≡ Accepted t → Few t
 read-few {text} {s} {w} {a} {t} h e = let l : Laid t s = subst (λ (r : Answer). LaidBy r s) e (h .laid) in l .few
 
-bare-length : (s w : List ℕ) (a n : ℕ) → length (bare (run (rowAt s w) a n)) ≡ n
-bare-length s w a n = length-map (run (rowAt s w) a n) (drop 1) ∙ run-length (rowAt s w) a n
-
 -- the ranges, by the counts
-in-table : (t : Table) (s w : List ℕ) → inTable (tableFrom t s w) ≡ then (known (entryTest t) (2 + t .names) (run (rowAt s w) (1 + t .names) (t .entries))) (λ _. unless (known (rootTest t) (2 + t .names + t .entries + t .pairs + t .marks) (bare (run (rowAt s w) (rootRow t) (t .roots)))) t s w)
+pub in-table : (t : Table) (s w : List ℕ) → inTable (tableFrom t s w) ≡ then (known (entryTest t) (2 + t .names) (run (rowAt s w) (1 + t .names) (t .entries))) (λ _. unless (known (rootTest t) (2 + t .names + t .entries + t .pairs + t .marks) (bare (run (rowAt s w) (rootRow t) (t .roots)))) t s w)
 unfolding inTable tableFrom
 in-table t s w =
     let names = bare-length s w 1 (t .names) in

@@ -100,8 +100,21 @@ countRow t s =
 pub record Counted (t : Table) (s : ℕ) (r : Table) : Type 0 where
   pub is : r ≡ countRow t s
 
-pub record TooLong (s size : ℕ) (r : Bool) : Type 0 where
-  pub is : r ≡ both (eqb s 1) (λ _. ltb longestName size)
+-- ceilings passed, by the ceilings of the code
+pub record NamesOver (names longest : ℕ) (t : Table) (s size : ℕ) (r : Bool) : Type 0 where
+  pub is : r ≡ if (ltb names (t .names)) (λ _. true) (λ _. both (eqb s 1) (λ _. ltb longest size))
+  pub few : r ≡ false → t .names ≤ names
+
+pub record EntriesOver (entries most : ℕ) (t : Table) (ids : ℕ) (r : Bool) : Type 0 where
+  pub is : r ≡ if (ltb entries (t .entries)) (λ _. true) (λ _. ltb most ids)
+  pub few : r ≡ false → t .entries ≤ entries
+  pub few-ids : r ≡ false → ids ≤ most
+
+pub record RestOver (pairs marks roots : ℕ) (t : Table) (r : Bool) : Type 0 where
+  pub is : r ≡ if (ltb pairs (t .pairs)) (λ _. true) (λ _. if (ltb marks (t .marks)) (λ _. true) (λ _. ltb roots (t .roots)))
+  pub few-pairs : r ≡ false → t .pairs ≤ pairs
+  pub few-marks : r ≡ false → t .marks ≤ marks
+  pub few-roots : r ≡ false → t .roots ≤ roots
 
 -- a ceiling is passed: rules' `over` on counts
 abbrev pub overBy : Table → ℕ → ℕ → ℕ → Bool
@@ -239,6 +252,13 @@ LaidBy (Refused k l) s = Unit {0}
 pub record Lent (places room : ℕ) (s w : List ℕ) : Type 0 where
   pub long-s : places ≤ length s
   pub long-w : room ≤ length w
+
+-- nothing read yet
+abbrev pub untouched : Progress
+untouched = record { stage = 0; lines = 0; top = 0; ids = 0; table = record { names = 0; entries = 0; pairs = 0; marks = 0; roots = 0 } }
+
+pub record Unread (p : Progress) : Type 0 where
+  pub is : p ≡ untouched
 
 -- no row yet
 pub record Begun (s w : List ℕ) : Type 0 where

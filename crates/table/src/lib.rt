@@ -4,7 +4,7 @@ ghost use Prim.Native.Nat.{_<_, _≤_};
 ghost use lib.ListN.{length, drop};
 ghost use Rattle.rules.specs.Table.{kinds};
 ghost use Rattle.text.specs.Reads.{FieldRoom, KindRoom, Kinded, Row};
-ghost use Rattle.table.specs.Rows.{At, Section, Steps, Ascend, Below, Before, Present, Placed, PlainWeight, Weight, KeysAscend, Few, Counted, TooLong, Over, InOrder, NameAscends, Ascends, RowWeight, Size, StageAfter, Fine, Advanced, Judged, Lent, Begun, Ready, Lined, Lines, VarKnown, SetKnown, KeysKnown, NamedKnown, PlainKnown, EntryKnown, EntriesKnown, RootsKnown, Known, Read};
+ghost use Rattle.table.specs.Rows.{At, Section, Steps, Ascend, Below, Before, Present, Placed, PlainWeight, Weight, KeysAscend, Few, Counted, NamesOver, EntriesOver, RestOver, Over, InOrder, NameAscends, Ascends, RowWeight, Size, StageAfter, Fine, Advanced, Judged, Lent, Unread, Begun, Ready, Lined, Lines, VarKnown, SetKnown, KeysKnown, NamedKnown, PlainKnown, EntryKnown, EntriesKnown, RootsKnown, Known, Read};
 
 // How many rows each section has. Row 0 is the budget line, and the sections follow in their order.
 pub struct Table {
@@ -31,6 +31,7 @@ impl Table {
     pub const MARKS: usize = 512;
 
     pub const ROOTS: usize = 64;
+
     // a row for each line at its ceiling, and the end of the last
     pub const STARTS: usize = 5698;
 
@@ -80,6 +81,7 @@ fn row_from_12(s: &[u8], from: usize, k: usize, to: usize, words: &mut [u32], to
     Got::Bad
 }
 
+// The same by the kinds from number 8 on.
 fn row_from_8(s: &[u8], from: usize, k: usize, to: usize, words: &mut [u32], top: usize) -> Got
     requires { ⌜ KindRoom (now s) from k to (now words) top ⌝ }
     requires { ⌜ k < 65537 ⌝ }
@@ -101,6 +103,7 @@ fn row_from_8(s: &[u8], from: usize, k: usize, to: usize, words: &mut [u32], top
     row_from_12(s, from, k, to, words, top)
 }
 
+// The same by the kinds from number 4 on.
 fn row_from_4(s: &[u8], from: usize, k: usize, to: usize, words: &mut [u32], top: usize) -> Got
     requires { ⌜ KindRoom (now s) from k to (now words) top ⌝ }
     requires { ⌜ k < 65537 ⌝ }
@@ -258,6 +261,7 @@ pub fn present(x: usize) -> usize
     1
 }
 
+// The places of the set whose row stands between from and to.
 pub fn places_of(words: &[u32], from: usize, to: usize) -> Places
     ensures { λ r. ⌜ Placed (now (words .entry)) from to r ⌝ }
 {
@@ -361,31 +365,33 @@ pub fn counted(t: Table, s: u32) -> Table
     q
 }
 
-pub fn too_long(s: u32, size: usize) -> bool
-    ensures { λ r. ⌜ TooLong s size r ⌝ }
+// Whether there are too many names, or this row of section s is a name of too many bytes.
+pub fn names_over(t: Table, s: u32, size: usize) -> bool
+    ensures { λ r. do ⌜ NamesOver (← ⟦Table::NAMES⟧ .entry) (← ⟦Table::LONGEST_NAME⟧ .entry) t s size r ⌝ }
 {
+    if Table::NAMES < t.names {
+        return true;
+    }
     if s == 1 {
         return Table::LONGEST_NAME < size;
     }
     false
 }
 
-// Whether a ceiling is passed, by a row of section s that has size words after its kind.
-pub fn over(t: Table, ids: usize, s: u32, size: usize) -> bool
-    ensures { λ r. ⌜ Over t ids s size r ⌝ }
+// Whether there are too many entries, or too many ids and keys in them.
+pub fn entries_over(t: Table, ids: usize) -> bool
+    ensures { λ r. do ⌜ EntriesOver (← ⟦Table::ENTRIES⟧ .entry) (← ⟦Table::IDS⟧ .entry) t ids r ⌝ }
 {
-    if Table::NAMES < t.names {
-        return true;
-    }
-    if too_long(s, size) {
-        return true;
-    }
     if Table::ENTRIES < t.entries {
         return true;
     }
-    if Table::IDS < ids {
-        return true;
-    }
+    Table::IDS < ids
+}
+
+// Whether there are too many pairs, marks or roots.
+pub fn rest_over(t: Table) -> bool
+    ensures { λ r. do ⌜ RestOver (← ⟦Table::PAIRS⟧ .entry) (← ⟦Table::MARKS⟧ .entry) (← ⟦Table::ROOTS⟧ .entry) t r ⌝ }
+{
     if Table::PAIRS < t.pairs {
         return true;
     }
@@ -393,6 +399,19 @@ pub fn over(t: Table, ids: usize, s: u32, size: usize) -> bool
         return true;
     }
     Table::ROOTS < t.roots
+}
+
+// Whether a ceiling is passed, by a row of section s that has size words after its kind.
+pub fn over(t: Table, ids: usize, s: u32, size: usize) -> bool
+    ensures { λ r. ⌜ Over t ids s size r ⌝ }
+{
+    if names_over(t, s, size) {
+        return true;
+    }
+    if entries_over(t, ids) {
+        return true;
+    }
+    rest_over(t)
 }
 
 // Whether a row of section s may follow; the budget line is the first and the only one of its section.
@@ -417,6 +436,7 @@ pub fn name_ascends(p: Progress, starts: &[u32], words: &[u32], to: usize) -> bo
     before(words, last + 1, p.top, p.top + 1, to)
 }
 
+// Whether the name, or the keys, of the row of section s that ends at to ascend.
 pub fn ascends(p: Progress, starts: &[u32], words: &[u32], to: usize, s: u32) -> bool
     requires { ⌜ p .top ≤ 65536 ⌝ }
     ensures { λ r. ⌜ Ascends p (now (starts .entry)) (now (words .entry)) to s r ⌝ }
@@ -430,6 +450,7 @@ pub fn ascends(p: Progress, starts: &[u32], words: &[u32], to: usize, s: u32) ->
     true
 }
 
+// The ids and keys of a row of section s: only entries have any.
 pub fn row_weight(words: &[u32], from: usize, to: usize, s: u32) -> usize
     ensures { λ r. ⌜ RowWeight (now (words .entry)) from to s r ⌝ }
 {
@@ -449,6 +470,7 @@ pub fn size_of(from: usize, to: usize) -> usize
     to - from - 1
 }
 
+// The section that a line may be of after one of section s.
 pub fn stage_after(s: u32) -> u32
     ensures { λ r. ⌜ StageAfter s r ⌝ }
 {
@@ -524,15 +546,11 @@ pub fn line(
     }
 }
 
-// The rows of all lines.
-pub fn lines_of(text: &[u8], starts: &mut [u32], words: &mut [u32]) -> Answer
-    requires { ⌜ Begun (now starts) (now words) ⌝ }
-    requires { ⌜ length (now text) ≤ 65536 ⌝ }
-    ensures { λ r. ⌜ Lines (now (text .entry)) (now (starts .exit)) (now (words .exit)) r ⌝ }
+// Nothing read yet.
+pub fn unread() -> Progress
+    ensures { λ r. ⌜ Unread r ⌝ }
 {
-    let n = text.len();
-    let mut from = 0;
-    let mut p = Progress {
+    Progress {
         stage: 0,
         lines: 0,
         top: 0,
@@ -544,7 +562,18 @@ pub fn lines_of(text: &[u8], starts: &mut [u32], words: &mut [u32]) -> Answer
             marks: 0,
             roots: 0,
         },
-    };
+    }
+}
+
+// The rows of all lines.
+pub fn lines_of(text: &[u8], starts: &mut [u32], words: &mut [u32]) -> Answer
+    requires { ⌜ Begun (now starts) (now words) ⌝ }
+    requires { do ⌜ length (now text) ≤ (← ⟦Table::TEXT⟧) ⌝ }
+    ensures { λ r. ⌜ Lines (now (text .entry)) (now (starts .exit)) (now (words .exit)) r ⌝ }
+{
+    let n = text.len();
+    let mut from = 0;
+    let mut p = unread();
     while from < n {
         let e = text::seek(text, from, n, 10);
         if e == n {

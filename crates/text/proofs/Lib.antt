@@ -1,3 +1,4 @@
+-- Lemmas, from the spans up; a reader of other kinds cites Shaping.
 pub mod Spans
 pub mod Follow
 pub mod Leaves

@@ -1,3 +1,4 @@
+-- `table::advance` meets its contract. Assumes nothing.
 use Rattle.table.proofs.Judging.{advance-is}
 use borrow.Author.Needs.{needs}
 use Rattle.table.proofs.advance.Statement.{statement}

@@ -1,3 +1,4 @@
+-- `table::ascend` meets its contract: the cells left ascend just where all do. Assumes nothing.
 use borrow.Author.Needs.{needs}
 use Prim.Native.Nat.{_-_}
 use Rattle.table.proofs.Cells.{Ascending, ascend-done, ascend-more, ascend-no, ascend-start}

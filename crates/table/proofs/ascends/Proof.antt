@@ -1,3 +1,4 @@
+-- `table::ascends` meets its contract. Assumes nothing.
 use Rattle.table.proofs.Judging.{ascends-else, ascends-keys, ascends-name}
 use borrow.Author.Needs.{needs}
 use Rattle.table.proofs.ascends.Statement.{statement}

@@ -1,3 +1,4 @@
+-- `table::at` meets its contract. Assumes nothing.
 use Rattle.table.proofs.Cells.{at-here, at-none, at-past}
 use borrow.Author.Needs.{needs}
 use Rattle.table.proofs.at.Statement.{statement}

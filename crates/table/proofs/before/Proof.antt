@@ -1,3 +1,4 @@
+-- `table::before` meets its contract: what is left to compare says the same as the whole. Assumes nothing.
 use borrow.Author.Needs.{needs}
 use Rattle.table.proofs.Cells.{Comparing, compare-differ, compare-more, compare-more-left, compare-same, compare-short, compare-start}
 use Prim.Native.Nat.{_-_}

@@ -1,3 +1,4 @@
+-- `table::below` meets its contract: the cells left are below the limit just where all are. Assumes nothing.
 use borrow.Author.Needs.{needs}
 use Prim.Native.Nat.{_-_}
 use Rattle.table.proofs.Cells.{Checking, below-done, below-more, below-no, below-start}

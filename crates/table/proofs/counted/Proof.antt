@@ -1,3 +1,4 @@
+-- `table::counted` meets its contract. Assumes nothing.
 use Rattle.table.proofs.Judging.{count-0, count-1, count-2, count-3, count-4, count-5}
 use borrow.Author.Needs.{needs}
 use Rattle.table.proofs.counted.Statement.{statement}

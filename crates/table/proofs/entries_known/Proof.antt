@@ -1,3 +1,4 @@
+-- `table::entries_known` meets its contract: the entries left say the same as all. Assumes nothing.
 use Prim.Native.Nat.{_-_}
 use Rattle.table.proofs.Knowing.{Entries, entries-done, entries-more, entries-no, entries-start}
 use borrow.Author.Needs.{needs}

@@ -1,3 +1,4 @@
+-- `table::entry_known` meets its contract. Assumes nothing.
 use Rattle.table.proofs.Knowing.{entry-plain, entry-set, entry-set-no, entry-var}
 use borrow.Author.Needs.{needs}
 use Rattle.table.proofs.entry_known.Statement.{statement}

@@ -1,3 +1,4 @@
+-- `table::in_order` meets its contract. Assumes nothing.
 use Rattle.table.proofs.Judging.{order-first, order-later}
 use Rattle.table.proofs.in_order.Statement.{statement}
 use Rattle.table.proofs.in_order.Tie as tie

@@ -1,3 +1,4 @@
+-- `table::judge` meets its contract. Assumes nothing.
 use Rattle.table.proofs.Judging.{judge-1, judge-2, judge-4, judge-5, judge-taken}
 use borrow.Author.Needs.{needs}
 use Rattle.table.proofs.judge.Statement.{statement}

@@ -1,3 +1,4 @@
+-- `table::keys_ascend` meets its contract. Assumes nothing.
 use Rattle.table.proofs.Entries.{keys-no, keys-none, keys-yes}
 use borrow.Author.Needs.{needs}
 use Rattle.table.proofs.keys_ascend.Statement.{statement}

@@ -1,3 +1,4 @@
+-- `table::keys_known` meets its contract. Assumes nothing.
 use Rattle.table.proofs.Knowing.{keyset-no, keyset-yes}
 use borrow.Author.Needs.{needs}
 use Rattle.table.proofs.keys_known.Statement.{statement}

@@ -1,3 +1,4 @@
+-- `table::known_of` meets its contract. Assumes nothing.
 use Rattle.table.proofs.Whole.{known-no, known-yes}
 use borrow.Author.Needs.{needs}
 use Rattle.table.proofs.known_of.Statement.{statement}

@@ -1,3 +1,4 @@
+-- `table::line` meets its contract. Assumes nothing.
 use Rattle.table.proofs.Lines.{line-bad, line-fault, line-near, line-place, line-room, line-small, line-taken}
 use borrow.Author.Needs.{needs}
 use Rattle.table.proofs.line.Statement.{statement}

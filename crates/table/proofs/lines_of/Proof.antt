@@ -1,6 +1,7 @@
+-- `table::lines_of` meets its contract: the rows, and the lines left, come to what the whole text says. Assumes nothing.
+use lib.ListN.{length}
 use Prim.Native.Nat.{_-_}
 use Rattle.table.proofs.Lines.{Walking, walk-done, walk-empty, walk-fault, walk-more, walk-ready, walk-start, walk-unended}
-use lib.ListN.{length}
 use borrow.Author.Needs.{needs}
 use Rattle.table.proofs.lines_of.Statement.{statement}
 use Rattle.table.proofs.lines_of.Tie as tie
@@ -38,6 +39,7 @@ lines-of-spec =
     (tie.spec
     Inv-loop
     μ-loop
+    (λ c _. search needs)
     loop-holds
     (λ c _. search needs)
     (λ c. search needs)

@@ -1,3 +1,4 @@
+-- `table::name_ascends` meets its contract. Assumes nothing.
 use Rattle.table.proofs.Judging.{name-after, name-first}
 use borrow.Author.Needs.{needs}
 use Rattle.table.proofs.name_ascends.Statement.{statement}

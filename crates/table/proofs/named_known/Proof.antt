@@ -1,3 +1,4 @@
+-- `table::named_known` meets its contract. Assumes nothing.
 use Rattle.table.proofs.Knowing.{named-no, named-yes}
 use borrow.Author.Needs.{needs}
 use Rattle.table.proofs.named_known.Statement.{statement}

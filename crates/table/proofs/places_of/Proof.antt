@@ -1,3 +1,4 @@
+-- `table::places_of` meets its contract. Assumes nothing.
 use Rattle.table.proofs.Entries.{places-are}
 use borrow.Author.Needs.{needs}
 use Rattle.table.proofs.places_of.Statement.{statement}

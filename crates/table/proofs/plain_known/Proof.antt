@@ -1,3 +1,4 @@
+-- `table::plain_known` meets its contract. Assumes nothing.
 use Rattle.table.proofs.Knowing.{known-10, known-11, known-5, known-6, known-8, known-9, known-else}
 use borrow.Author.Needs.{needs}
 use Rattle.table.proofs.plain_known.Statement.{statement}

@@ -1,3 +1,4 @@
+-- `table::plain_weight` meets its contract. Assumes nothing.
 use Rattle.table.proofs.Entries.{plain-0, plain-10, plain-11, plain-5, plain-6, plain-8, plain-9}
 use Rattle.table.proofs.plain_weight.Statement.{statement}
 use Rattle.table.proofs.plain_weight.Tie as tie

@@ -1,3 +1,4 @@
+-- `table::present` meets its contract. Assumes nothing.
 use Rattle.table.proofs.Entries.{present-0, present-1}
 use Rattle.table.proofs.present.Statement.{statement}
 use Rattle.table.proofs.present.Tie as tie

@@ -1,3 +1,4 @@
+-- `table::read` meets its contract. Assumes nothing.
 use lib.ListN.{length-set}
 use Rattle.table.proofs.Whole.{read-begun, read-few, read-long, read-no, read-yes}
 use mathlib.Core.Path.{_∙_}

@@ -1,3 +1,4 @@
+-- `table::roots_known` meets its contract: the roots left say the same as all. Assumes nothing.
 use Prim.Native.Nat.{_-_}
 use Rattle.table.proofs.Knowing.{Roots, roots-done, roots-more, roots-no, roots-start}
 use borrow.Author.Needs.{needs}

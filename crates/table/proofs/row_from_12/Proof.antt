@@ -1,3 +1,4 @@
+-- `table::row_from_12` meets its contract. Assumes nothing.
 use Rattle.text.proofs.Shaping.{kind-here, kind-next, kind-none}
 use borrow.Author.Needs.{needs}
 use Rattle.table.proofs.row_from_12.Statement.{statement}

@@ -1,10 +1,11 @@
+-- `table::row_of` meets its contract. Assumes nothing.
 use Rattle.text.proofs.Shaping.{kind-here, kind-next, kind-row}
 use borrow.Author.Needs.{needs}
 use Rattle.table.proofs.row_of.Statement.{statement}
 use Rattle.table.proofs.row_of.Tie as tie
 
 returns : tie.Need-returns
-returns c = search (kind-row, kind-here, kind-next) depth 8
+returns c = search (kind-row, kind-here)
 
 returns-2 : tie.Need-returns-2
 returns-2 c = search (kind-row, kind-here, kind-next) depth 8

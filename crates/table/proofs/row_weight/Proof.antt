@@ -1,3 +1,4 @@
+-- `table::row_weight` meets its contract. Assumes nothing.
 use Rattle.table.proofs.Judging.{weight-entry, weight-other}
 use borrow.Author.Needs.{needs}
 use Rattle.table.proofs.row_weight.Statement.{statement}

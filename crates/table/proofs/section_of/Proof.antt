@@ -1,3 +1,4 @@
+-- `table::section_of` meets its contract. Assumes nothing.
 use Rattle.table.proofs.Judging.{section-entry, section-late, section-low}
 use borrow.Author.Needs.{needs}
 use Rattle.table.proofs.section_of.Statement.{statement}

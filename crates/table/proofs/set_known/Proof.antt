@@ -1,3 +1,4 @@
+-- `table::set_known` meets its contract. Assumes nothing.
 use Rattle.table.proofs.Knowing.{set-no, set-yes}
 use borrow.Author.Needs.{needs}
 use Rattle.table.proofs.set_known.Statement.{statement}

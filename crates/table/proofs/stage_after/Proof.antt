@@ -1,3 +1,4 @@
+-- `table::stage_after` meets its contract. Assumes nothing.
 use Rattle.table.proofs.Judging.{stage-first, stage-same}
 use Rattle.table.proofs.stage_after.Statement.{statement}
 use Rattle.table.proofs.stage_after.Tie as tie

@@ -1,3 +1,4 @@
+-- `table::var_known` meets its contract. Assumes nothing.
 use Rattle.table.proofs.Knowing.{var-no, var-yes}
 use borrow.Author.Needs.{needs}
 use Rattle.table.proofs.var_known.Statement.{statement}

@@ -1,3 +1,4 @@
+-- `table::weight_of` meets its contract. Assumes nothing.
 use Rattle.table.proofs.Entries.{weight-plain, weight-set, weight-var}
 use borrow.Author.Needs.{needs}
 use Rattle.table.proofs.weight_of.Statement.{statement}

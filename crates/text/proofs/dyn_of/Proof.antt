@@ -1,3 +1,4 @@
+-- `text::dyn_of` meets its contract. Assumes nothing.
 use Rattle.text.proofs.Fields.{dyn-bad, dyn-none, dyn-place, dyn-some}
 use borrow.Author.Needs.{needs}
 use Rattle.text.proofs.dyn_of.Statement.{statement}

@@ -1,3 +1,4 @@
+-- `text::element_of` meets its contract. Assumes nothing.
 use Rattle.text.proofs.Lists.{element-fits, element-keyed, element-none, element-one}
 use borrow.Author.Needs.{needs}
 use Rattle.text.proofs.element_of.Statement.{statement}

@@ -1,3 +1,4 @@
+-- `text::elements_of` meets its contract: the words written, and the elements left, make the whole list. Assumes nothing.
 use Rattle.text.proofs.Lists.{Listing, elements-bad, elements-last, elements-more, elements-room, elements-start}
 use Prim.Native.Nat.{_-_}
 use borrow.Author.Needs.{needs}

@@ -1,3 +1,4 @@
+-- `text::escaped` meets its contract. Assumes nothing.
 use Rattle.text.proofs.Naming.{escaped-low, escaped-slash, escaped-else}
 use Rattle.text.proofs.escaped.Statement.{statement}
 use Rattle.text.proofs.escaped.Tie as tie

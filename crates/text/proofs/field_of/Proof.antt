@@ -1,3 +1,4 @@
+-- `text::field_of` meets its contract. Assumes nothing.
 use Rattle.text.proofs.Fields.{field-code, field-flag, field-list, field-number}
 use borrow.Author.Needs.{needs}
 use Rattle.text.proofs.field_of.Statement.{statement}

@@ -1,3 +1,4 @@
+-- `text::field_rest` meets its contract. Assumes nothing.
 use Rattle.text.proofs.Fields.{field-dyn, field-fields, field-name, field-none, field-sign}
 use borrow.Author.Needs.{needs}
 use Rattle.text.proofs.field_rest.Statement.{statement}

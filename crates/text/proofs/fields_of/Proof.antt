@@ -1,3 +1,4 @@
+-- `text::fields_of` meets its contract: the words written, and the fields left, make the whole row. Assumes nothing.
 use Prim.Native.Nat.{_-_}
 use lib.ListN.{length}
 use Rattle.text.proofs.Shaping.{Shaping, shape-start, shape-few, shape-room, shape-no, shape-more, shape-many, shape-place, shape-done}

@@ -1,3 +1,4 @@
+-- `text::hex` meets its contract. Assumes nothing.
 use Rattle.text.proofs.Naming.{hex-low, hex-digit, hex-mid, hex-letter, hex-high}
 use borrow.Author.Needs.{needs}
 use Rattle.text.proofs.hex.Statement.{statement}

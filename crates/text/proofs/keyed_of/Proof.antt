@@ -1,3 +1,4 @@
+-- `text::keyed_of` meets its contract. Assumes nothing.
 use Rattle.text.proofs.Lists.{keyed-alone, keyed-done, keyed-many, keyed-no-id, keyed-no-key, keyed-place}
 use borrow.Author.Needs.{needs}
 use Rattle.text.proofs.keyed_of.Statement.{statement}

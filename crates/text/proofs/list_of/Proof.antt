@@ -1,3 +1,4 @@
+-- `text::list_of` meets its contract. Assumes nothing.
 use Rattle.text.proofs.Lists.{list-bad, list-dash, list-done, list-low, list-place, list-room, list-small}
 use borrow.Author.Needs.{needs}
 use Rattle.text.proofs.list_of.Statement.{statement}

@@ -1,3 +1,4 @@
+-- `text::name_of` meets its contract: the bytes written, and the bytes left, make the whole name. Assumes nothing.
 use Prim.Native.Nat.{_-_}
 use Rattle.text.proofs.Naming.{Naming, name-bad, name-done, name-move, name-open, name-place, name-put, name-start}
 use borrow.Author.Needs.{needs}

@@ -1,3 +1,4 @@
+-- `text::next` meets its contract. Assumes nothing.
 use Rattle.text.proofs.Naming.{next-escaped, next-first, next-needless, next-no-digit, next-plain, next-raw, next-slash}
 use borrow.Author.Needs.{needs}
 use Rattle.text.proofs.next.Statement.{statement}

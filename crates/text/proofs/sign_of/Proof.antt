@@ -1,3 +1,4 @@
+-- `text::sign_of` meets its contract. Assumes nothing.
 use Rattle.text.proofs.Fields.{sign-bad, sign-minus, sign-plus}
 use borrow.Author.Needs.{needs}
 use Rattle.text.proofs.sign_of.Statement.{statement}

@@ -1,3 +1,4 @@
+-- `text::up_to` meets its contract. Assumes nothing.
 use Rattle.text.proofs.Fields.{bounded-big, bounded-none, bounded-one}
 use borrow.Author.Needs.{needs}
 use Rattle.text.proofs.up_to.Statement.{statement}
