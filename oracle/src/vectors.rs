@@ -149,9 +149,9 @@ fn bails(root: &RootAnswer) -> bool {
 
 fn record(table: &Table, answers: &[RootAnswer]) -> Vec<u8> {
     let (table, listing) = (table.to_text(), listing::write(answers));
-    let mut record = format!("table\t{}\n", table.len()).into_bytes();
+    let mut record = format!("table\t{:06}\n", table.len()).into_bytes();
     record.extend(table);
-    record.extend(format!("listing\t{}\n", listing.len()).into_bytes());
+    record.extend(format!("listing\t{:06}\n", listing.len()).into_bytes());
     record.extend(listing);
     record
 }

@@ -1,14 +1,13 @@
 -- Laws of `over`, and of what was written piece after piece. Assumes nothing.
 use mathlib.Core.Bool.{Bool}
 use mathlib.Core.Path.{_≡_, refl, sym, ap, subst, _∙_}
-use Prim.Native.Nat.{ℕ, zero, suc, _+_, _-_, _*_, _/_, _%_, _≤_, _<_}
+use Prim.Native.Nat.{ℕ, zero, suc, _+_, _-_, _/_, _%_, _≤_, _<_}
 use native.Mathlib.Omega.{arith}
 use native.Mathlib.Nat.{eq-or-lt-of-le}
 use mathlib.Core.Logic.{⊎-elim}
 use mathlib.Core.List.{List, [], _∷_, _++_}
 use lib.ListN.{length, set, length-set, length-append}
 use lib.Seq.{set-out}
-use lib.Dec.{ltb, eqb}
 use borrow.Author.Tests.{lt-ltb, le-ltb, eq-eqb, ne-eqb}
 use Rattle.cells.specs.Part.{if, cell}
 use Rattle.rules.specs.Text.{tab, decimalBy, decimal, fieldText, aSign}
@@ -49,12 +48,12 @@ pub wrote-more : {t u : List ℕ} {p q r : ℕ} {o o₁ o₂ : List ℕ} → Wro
 wrote-more {t} {u} {p} {q} {r} {o} {o₁} {o₂} a b = record {
   to = let x = a .to in let y = b .to in omega (arith, length-append t u);
   is = λ h.
-    let e = a .is h in
-    b .is (rw e (rw over-length h))
-    ∙ ap (λ (l : List ℕ). over l q u) e
-    ∙ ap (λ (k : ℕ). over (over o p t) k u) (a .to)
-    ∙ over-capped (over o p t) (p + length t) u (rw over-length h)
-    ∙ sym (over-append o p t u);
+      let e = a .is h in
+      b .is (rw e (rw over-length h))
+      ∙ ap (λ (l : List ℕ). over l q u) e
+      ∙ ap (λ (k : ℕ). over (over o p t) k u) (a .to)
+      ∙ over-capped (over o p t) (p + length t) u (rw over-length h)
+      ∙ sym (over-append o p t u);
 }
 
 -- the same text in other words

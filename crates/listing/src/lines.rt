@@ -232,7 +232,16 @@ fn node_lines(starts: &[u32], words: &[u32], work: &[u32], out: &mut [u8], at: u
 }
 
 // The lines of a root that is not refused, with its nodes, children first. The first 8,192 cells of work are used.
-pub fn root_lines(starts: &[u32], words: &[u32], work: &mut [u32], out: &mut [u8], at: u32, id: u32, sign: u32, s: Head) -> u32 {
+pub fn root_lines(
+    starts: &[u32],
+    words: &[u32],
+    work: &mut [u32],
+    out: &mut [u8],
+    at: u32,
+    id: u32,
+    sign: u32,
+    s: Head,
+) -> u32 {
     let n = walk::walk(starts, words, work, s.node);
     let p = root_line(out, at, id, sign, s, n);
     node_lines(starts, words, work, out, p, n)

@@ -8,7 +8,7 @@ use cells::put;
 use cells::set;
 use lang_ty::arc_ty;
 
-const ORDER: u32 = 4096;
+const ORDER: u32 = 8192;
 
 // The nodes below x and x itself, numbered from k on, children first; the next number. A child has a smaller number than its node.
 fn visit(starts: &[u32], words: &[u32], work: &mut [u32], x: u32, k: u32) -> u32 {

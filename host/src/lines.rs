@@ -1,0 +1,92 @@
+//! A listing taken apart into the lines of each root.
+
+use std::collections::HashMap;
+
+/// The lines of each root, without the first line.
+pub fn blocks(listing: &[u8]) -> Vec<&[u8]> {
+    let mut starts = Vec::new();
+    let mut at = 0;
+    for line in listing.split_inclusive(|&b| b == b'\n') {
+        if line.starts_with(b"root\t") || line.starts_with(b"refused\t") {
+            starts.push(at);
+        }
+        at += line.len();
+    }
+    let ends = starts.iter().skip(1).copied().chain([listing.len()]);
+    let bounds = starts.iter().zip(ends);
+    bounds.map(|(&start, end)| &listing[start..end]).collect()
+}
+
+/// The fields of a block's first line.
+pub fn head(block: &[u8]) -> Vec<&str> {
+    let line = block.split(|&b| b == b'\n').next().unwrap_or_default();
+    let line = std::str::from_utf8(line).unwrap_or_default();
+    line.split('\t').collect()
+}
+
+/// The number that refuses a root.
+pub fn root_refusal(block: &[u8]) -> Option<u32> {
+    match head(block)[..] {
+        ["refused", _, _, number] => number.parse().ok(),
+        _ => None,
+    }
+}
+
+/// The types of two blocks are the same but for the order of members, and the
+/// first lines are the same but for the node count.
+pub fn same_but_order(ours: &[u8], theirs: &[u8]) -> bool {
+    let (mine, other) = (head(ours), head(theirs));
+    if mine.len() != 8 || other.len() != 8 || mine[..7] != other[..7] {
+        return false;
+    }
+    let mut types = HashMap::new();
+    let mine = type_of(ours, &mut types);
+    mine.is_some() && mine == type_of(theirs, &mut types)
+}
+
+/// The number of the last node's type among `types`, where members have no
+/// order.
+fn type_of(block: &[u8], types: &mut HashMap<String, usize>) -> Option<usize> {
+    let text = std::str::from_utf8(block).ok()?;
+    let mut numbers: Vec<usize> = Vec::new();
+    for line in text.lines().skip(1) {
+        let (_, node) = line.split_once('\t')?;
+        let node = with_types(node, &numbers)?;
+        let next = types.len();
+        numbers.push(*types.entry(node).or_insert(next));
+    }
+    numbers.last().copied()
+}
+
+/// A node's text with the type numbers of its children.
+fn with_types(node: &str, numbers: &[usize]) -> Option<String> {
+    let child = |text: &str| numbers.get(text.parse::<usize>().ok()?).copied();
+    let children = |text: &str| -> Option<Vec<usize>> {
+        let mut found = Vec::new();
+        for part in text.split(',').filter(|&part| part != "-") {
+            found.push(child(part)?);
+        }
+        Some(found)
+    };
+    let fields: Vec<&str> = node.split('\t').collect();
+    let text = match fields[..] {
+        [kind @ ("union" | "inter"), members] => {
+            let mut members = children(members)?;
+            members.sort_unstable();
+            format!("{kind} {members:?}")
+        }
+        [kind @ ("list" | "neg"), a] => format!("{kind} {}", child(a)?),
+        ["fn", a, b] => format!("fn {} {}", child(a)?, child(b)?),
+        ["named", name, a] => format!("named {name} {}", child(a)?),
+        ["set", fields, dyn_ty, open, optional] => {
+            let mut text = String::from("set");
+            for field in fields.split(',').filter(|&field| field != "-") {
+                let (key, a) = field.split_once(':')?;
+                text.push_str(&format!(" {key}:{}", child(a)?));
+            }
+            format!("{text} {:?} {open} {optional}", children(dyn_ty)?)
+        }
+        _ => node.to_string(),
+    };
+    Some(text)
+}
