@@ -15,7 +15,7 @@ oracle damage SEED                a damaged table
 oracle damage SEED COUNT          COUNT of them, framed
 oracle profiles                   the profiles
 oracle cover COUNT                counts over COUNT random tables
-oracle vectors                    the text of vectors.txt
+oracle vectors                    the text of crates/vectors/stdin
 oracle text                       whether this was built with the Rust text
 
 A frame is a line `table`, name, byte length, parted by tabs, and then the

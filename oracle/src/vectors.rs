@@ -38,7 +38,7 @@ struct Candidate {
     bailed: bool,
 }
 
-/// The text of vectors.txt.
+/// The text of crates/vectors/stdin.
 pub fn text() -> Vec<u8> {
     run::on_large_stack(|| {
         let mut text = Vec::new();

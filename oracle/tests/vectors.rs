@@ -1,15 +1,15 @@
-//! vectors.txt is what the program makes, and has what it should have.
+//! The vectors, crates/vectors/stdin, are what the program makes, and have what they should have.
 
 use std::collections::BTreeSet;
 
-const FILE: &[u8] = include_bytes!("../vectors.txt");
+const FILE: &[u8] = include_bytes!("../../crates/vectors/stdin");
 
 #[test]
 #[cfg(text_at_hand)]
 fn vectors_are_made_again() {
     assert!(
         oracle::vectors::text() == FILE,
-        "vectors.txt differs from what `oracle vectors` prints"
+        "crates/vectors/stdin differs from what `oracle vectors` prints"
     );
 }
 
