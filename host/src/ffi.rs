@@ -206,7 +206,9 @@ fn soil<T>(rng: &mut Rng, all: bool, cells: &mut [T], made: fn(u64) -> T) {
         }
         return;
     }
-    for _ in 0..20 {
+    // A scratch of no cell at all has none to soil.
+    let some = if cells.is_empty() { 0 } else { 20 };
+    for _ in 0..some {
         let at = rng.below(cells.len());
         cells[at] = made(rng.next());
     }
