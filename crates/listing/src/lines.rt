@@ -231,7 +231,7 @@ fn node_lines(starts: &[u32], words: &[u32], work: &[u32], out: &mut [u8], at: u
     p
 }
 
-// The lines of a root that is not refused, with its nodes, children first. The first 8,192 cells of work are used.
+// The lines of a root that is not refused, with its nodes, children first. The first 12,288 cells of work may be used.
 pub fn root_lines(
     starts: &[u32],
     words: &[u32],
