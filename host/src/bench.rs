@@ -1,4 +1,5 @@
-//! Our time per root beside the Rust's on the same tables.
+//! Our time per root beside the Rust's on the same tables; recheck's beside
+//! canon's.
 
 use std::hint::black_box;
 use std::time::Duration;
@@ -7,6 +8,7 @@ use oracle::{gen, listing, reader, Answer, RootAnswer, Table};
 
 use crate::ffi::{Canon, OUTPUT};
 use crate::join::behind;
+use crate::{processes, touched};
 
 const SIZES: [usize; 3] = [50, 500, 2_000];
 /// Tables of each profile and size, and runs of each table.
@@ -14,6 +16,7 @@ const TABLES: u64 = 3;
 const RUNS: usize = 15;
 /// Seeds that are tried for parts that fit.
 const SEEDS: u64 = 400;
+
 /// Medians of one table.
 struct Times {
     roots: usize,
@@ -23,9 +26,24 @@ struct Times {
 }
 
 pub fn run() -> (u64, u64) {
+    beside_the_rust();
+    println!();
+    rechecked()
+}
+
+/// recheck's part alone.
+pub fn rechecked() -> (u64, u64) {
+    // The tables are chosen by what the Rust answers.
+    timed::on_large_stack(touched::run);
+    println!();
+    processes::run();
+    (0, 0)
+}
+
+fn beside_the_rust() {
     if !oracle::text_at_hand() {
         println!("bench: the Rust text is not at hand, skipped");
-        return (0, 0);
+        return;
     }
     println!("Processor time for each root, from medians of {RUNS} runs.");
     for single in [false, true] {
@@ -38,7 +56,6 @@ pub fn run() -> (u64, u64) {
         // The Rust needs the stack; ours is content with it.
         timed::on_large_stack(|| table(single));
     }
-    (0, 0)
 }
 
 fn table(single: bool) {
@@ -87,11 +104,11 @@ fn row(name: &str, size: usize, times: &[Times]) {
     );
 }
 
-fn told(time: Duration) -> String {
+pub fn told(time: Duration) -> String {
     format!("{:.1} µs", time.as_secs_f64() * 1e6)
 }
 
-fn time(f: impl FnOnce()) -> Duration {
+pub fn time(f: impl FnOnce()) -> Duration {
     let start = processor_time();
     f();
     processor_time().saturating_sub(start)
@@ -117,7 +134,7 @@ fn processor_time() -> Duration {
     Duration::new(time.seconds as u64, time.nanoseconds as u32)
 }
 
-fn median(mut times: Vec<Duration>) -> Duration {
+pub fn median(mut times: Vec<Duration>) -> Duration {
     times.sort_unstable();
     times[times.len() / 2]
 }
@@ -156,7 +173,7 @@ fn measure(canon: &mut Canon, table: &Table) -> Option<Times> {
 
 /// Tables of a profile, one behind another in one table of about `size`
 /// entries; none if no two thirds of it can be filled.
-fn joined(profile: usize, size: usize, part: u64, single: bool) -> Option<Table> {
+pub fn joined(profile: usize, size: usize, part: u64, single: bool) -> Option<Table> {
     let mut whole = Table {
         budget: u32::MAX,
         ..Table::default()

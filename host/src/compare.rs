@@ -5,8 +5,7 @@ use std::collections::BTreeMap;
 use oracle::{damage, gen, listing, reader, Answer, Fault, RootAnswer, Table};
 
 use crate::ffi::{refused, Canon, Outcome, OUTPUT};
-use crate::join::behind;
-use crate::rng::Rng;
+use crate::join;
 use crate::{kept, lines, watch};
 
 /// One table in so many has each of its roots asked for by `canon_root` too.
@@ -85,7 +84,7 @@ pub fn run(count: u64, seed: u64) -> (u64, u64) {
         let name = format!("{seed} {index}");
         all.table(profile, &name, &table, index % SINGLE == 0);
         if index % JOINED == 0 {
-            if let Some(table) = joined(seed, index) {
+            if let Some(table) = join::several(seed, index) {
                 let joined = gen::PROFILES.len();
                 all.table(joined, &format!("{name} joined"), &table, true);
             }
@@ -104,24 +103,6 @@ pub fn run(count: u64, seed: u64) -> (u64, u64) {
 fn names() -> impl Iterator<Item = &'static str> {
     let profiles = gen::PROFILES.iter().map(|profile| profile.name);
     profiles.chain(["joined"])
-}
-
-/// Tables of several profiles in one, their roots in any order, so that what
-/// a root leaves behind meets roots of other kinds.
-fn joined(seed: u64, index: u64) -> Option<Table> {
-    let mut rng = Rng::new(seed ^ index.rotate_left(32));
-    let mut whole = Table::default();
-    for _ in 0..rng.range(2, 5) {
-        let next = gen::table(rng.below(gen::PROFILES.len()), rng.next());
-        let longer = behind(&whole, &next, 8);
-        if reader::read(&longer.to_text()).is_ok() {
-            whole = longer;
-        }
-    }
-    for i in (1..whole.roots.len()).rev() {
-        whole.roots.swap(i, rng.below(i + 1));
-    }
-    Some(whole).filter(|whole| !whole.roots.is_empty())
 }
 
 impl Comparison {
@@ -224,7 +205,7 @@ impl Comparison {
 
     fn fail(&mut self, name: &str, text: &[u8], fault: &str) {
         self.failed += 1;
-        self.canon.wipe();
+        self.canon.scratch.wipe();
         let file = kept::keep("differ", &name.replace(' ', "-"), text);
         if self.failed <= TOLD as u64 {
             println!("{file}: {fault}");
@@ -362,7 +343,7 @@ fn damaged(all: &mut Comparison, count: u64, seed: u64) -> (u64, u64) {
             None => passed += 1,
             Some(fault) => {
                 failed += 1;
-                all.canon.wipe();
+                all.canon.scratch.wipe();
                 let file = kept::keep("differ", &format!("damaged-{seed}"), &text);
                 println!("{file} ({told}): {fault}");
             }

@@ -7,9 +7,10 @@ use std::fmt::Write as _;
 use oracle::{reader, Answer, Measures, RootAnswer};
 
 use crate::draft::{tabs, Draft};
-use crate::ffi::{refused, Canon, Refused, LENGTHS, OUTPUT, SLICES};
+use crate::ffi::{refused, Canon, Refused, CANON, OUTPUT};
 use crate::rng::Rng;
-use crate::{lines, watch};
+use crate::scratch::Checked;
+use crate::{lines, recheck_edges, watch};
 
 /// Enough for every listing here.
 const ROOM: usize = 1 << 20;
@@ -96,18 +97,19 @@ pub fn run() -> (u64, u64) {
     soiled_scratch(&mut canon, &mut tally);
     short_scratch(&mut canon, &mut tally);
     single_roots(&mut canon, &mut tally);
+    recheck_edges::run(&mut tally);
     println!("{} edges", tally.passed + tally.failed);
     (tally.passed, tally.failed)
 }
 
 #[derive(Default)]
-struct Tally {
+pub struct Tally {
     passed: u64,
     failed: u64,
 }
 
 impl Tally {
-    fn take(&mut self, name: &str, result: Result<(), String>) {
+    pub fn take(&mut self, name: &str, result: Result<(), String>) {
         match result {
             Ok(()) => self.passed += 1,
             Err(fault) => {
@@ -147,7 +149,7 @@ fn same<T: PartialEq + std::fmt::Debug>(ours: T, expected: T) -> Result<(), Stri
     }
 }
 
-fn told(refusal: Refused) -> String {
+pub fn told(refusal: Refused) -> String {
     format!("{refusal:?}")
 }
 
@@ -1001,7 +1003,7 @@ fn nested_lines(id: u32, code: u32, depth: u32) -> String {
 
 /// A table whose listing has `length` bytes: roots in two chains of lists,
 /// whose lines are of slightly different lengths.
-fn of_length(length: usize) -> (Vec<u8>, Vec<u8>) {
+pub fn of_length(length: usize) -> (Vec<u8>, Vec<u8>) {
     let mut draft = Draft::default();
     let chains = [0, 3].map(|code| {
         let prim = draft.prim(code);
@@ -1060,10 +1062,10 @@ fn soiled_scratch(canon: &mut Canon, tally: &mut Tally) {
     ] {
         for all in [false, true] {
             let mut out = vec![0xa5; OUTPUT];
-            canon.soil(&mut rng, all);
+            canon.scratch.soil(&mut rng, all);
             let outcome = canon.canon(&text, &mut out);
             let name = format!("{name}, soiled scratch, all of it: {all}");
-            tally.take(&name, writes(outcome, &out, listing));
+            tally.take(&name, writes(outcome, &out, &tabs(listing)));
         }
     }
 }
@@ -1076,35 +1078,35 @@ fn short_scratch(canon: &mut Canon, tally: &mut Tally) {
         ("frozen", tabs("budget>1\nfrozen\n")),
         ("too long", vec![b'x'; 65_537]),
     ];
-    for (i, slice) in SLICES.iter().enumerate() {
-        for length in [LENGTHS[i] - 1, LENGTHS[i] / 2, 0] {
+    for (i, (slice, stated)) in CANON.into_iter().enumerate() {
+        for length in [stated - 1, stated / 2, 0] {
             for (what, text) in &texts {
-                canon.lent[i] = length;
+                canon.scratch.lent[i] = length;
                 let mut out = vec![0xa5; OUTPUT];
                 let name = format!("{slice} of {length}, {what}");
                 let outcome = canon.canon(text, &mut out);
                 tally.take(&name, refused_with(outcome, 20, 0));
                 let outcome = canon.canon_root(text, 9, 0, &mut out[..0]);
                 tally.take(&format!("{name}, one root"), refused_with(outcome, 20, 0));
-                canon.lent = LENGTHS;
+                canon.scratch.lend_stated();
             }
         }
-        canon.lent[i] = LENGTHS[i] + 1;
+        canon.scratch.lent[i] = stated + 1;
         let mut out = vec![0xa5; OUTPUT];
         let outcome = canon.canon(&k1(), &mut out);
         let name = format!("{slice} of one more");
-        tally.take(&name, writes(outcome, &out, K1_LISTING));
-        canon.lent = LENGTHS;
+        tally.take(&name, writes(outcome, &out, &tabs(K1_LISTING)));
+        canon.scratch.lend_stated();
     }
 }
 
-fn refused_with(outcome: crate::ffi::Checked, number: u32, line: u32) -> Result<(), String> {
+pub fn refused_with(outcome: Checked, number: u32, line: u32) -> Result<(), String> {
     same(outcome?, Err(refused(number, line)))
 }
 
-fn writes(outcome: crate::ffi::Checked, out: &[u8], text: &str) -> Result<(), String> {
+pub fn writes(outcome: Checked, out: &[u8], text: &[u8]) -> Result<(), String> {
     let length = outcome?.map_err(told)?;
-    match out[..length] == tabs(text)[..] {
+    match out[..length] == *text {
         true => Ok(()),
         false => Err(format!("ours {}", first_bytes(&out[..length]))),
     }
@@ -1121,7 +1123,7 @@ fn single_roots(canon: &mut Canon, tally: &mut Tally) {
         let length = tabs(text).len();
         let mut out = vec![0xa5; length];
         let outcome = canon.canon_root(&k1(), id, sign, &mut out);
-        tally.take(&name, writes(outcome, &out, text));
+        tally.take(&name, writes(outcome, &out, &tabs(text)));
         let outcome = canon.canon_root(&k1(), id, sign, &mut out[..length - 1]);
         tally.take(&format!("{name}, one short"), refused_with(outcome, 12, 0));
     }
@@ -1132,7 +1134,7 @@ fn single_roots(canon: &mut Canon, tally: &mut Tally) {
     let outcome = canon.canon_root(&draft.text(), 96, 1, &mut out);
     tally.take(
         "97 keys of one root",
-        writes(outcome, &out, "refused>96>->6\n"),
+        writes(outcome, &out, &tabs("refused>96>->6\n")),
     );
     for (name, text, id, line) in [
         ("root n", k1(), 3, 0),

@@ -1,9 +1,6 @@
-//! The calls of the proved library, and what they promise of the cells that
-//! are lent to them.
+//! The calls of the proved library.
 
-use std::ops::BitOr;
-
-use crate::rng::Rng;
+use crate::scratch::{Checked, Scratch, Slice};
 
 extern "C" {
     fn pekonusit_canon(
@@ -49,14 +46,64 @@ extern "C" {
         work: *mut u32,
         work_len: usize,
     ) -> u64;
+
+    fn pekonusit_recheck(
+        old: *const u8,
+        old_len: usize,
+        new: *const u8,
+        new_len: usize,
+        listing: *const u8,
+        listing_len: usize,
+        out: *mut u8,
+        out_len: usize,
+        draft: *mut u8,
+        draft_len: usize,
+        old_rows: *mut u32,
+        old_rows_len: usize,
+        old_table: *mut u32,
+        old_table_len: usize,
+        rows: *mut u32,
+        rows_len: usize,
+        table: *mut u32,
+        table_len: usize,
+        facts: *mut u32,
+        facts_len: usize,
+        starts: *mut u32,
+        starts_len: usize,
+        words: *mut u32,
+        words_len: usize,
+        work: *mut u32,
+        work_len: usize,
+        spans: *mut u32,
+        spans_len: usize,
+    ) -> u64;
 }
 
-/// The scratch slices in the order in which they are lent.
-pub const SLICES: [&str; 7] = ["draft", "rows", "table", "facts", "starts", "words", "work"];
-/// Their stated lengths: bytes of the draft, numbers of the others.
-pub const LENGTHS: [usize; 7] = [65_536, 5_698, 65_536, 6_144, 4_097, 49_152, 49_152];
-/// How much longer than stated a slice may be lent here.
-pub const SPARE: usize = 64;
+/// What canon and canon_root are lent, in this order.
+pub const CANON: [Slice; 7] = [
+    ("draft", 65_536),
+    ("rows", 5_698),
+    ("table", 65_536),
+    ("facts", 6_144),
+    ("starts", 4_097),
+    ("words", 49_152),
+    ("work", 49_152),
+];
+
+/// What recheck is lent, in this order.
+pub const RECHECK: [Slice; 10] = [
+    ("draft", 65_536),
+    ("old_rows", 5_698),
+    ("old_table", 65_536),
+    ("rows", 5_698),
+    ("table", 65_536),
+    ("facts", 6_144),
+    ("starts", 4_097),
+    ("words", 65_536),
+    ("work", 49_152),
+    ("spans", 129),
+];
+
 /// What the programs lend as output.
 pub const OUTPUT: usize = 65_536;
 
@@ -74,154 +121,6 @@ pub fn refused(number: u32, line: u32) -> Refused {
 /// So many bytes written, or a refusal.
 pub type Outcome = Result<usize, Refused>;
 
-/// What a call gave, or which of its promises it broke.
-pub type Checked = Result<Outcome, String>;
-
-/// The root that `canon_root` is called for.
-#[derive(Clone, Copy)]
-struct RootOf {
-    id: u32,
-    sign: u32,
-}
-
-/// The library with scratch of its own.
-pub struct Canon {
-    draft: Vec<u8>,
-    /// The other six.
-    words: [Vec<u32>; 6],
-    /// The lengths that are lent.
-    pub lent: [usize; 7],
-    /// The output as it was before a call.
-    before: Vec<u8>,
-}
-
-impl Canon {
-    pub fn new() -> Self {
-        Canon {
-            draft: vec![0; LENGTHS[0] + SPARE],
-            words: std::array::from_fn(|i| vec![0; LENGTHS[i + 1] + SPARE]),
-            lent: LENGTHS,
-            before: Vec::new(),
-        }
-    }
-
-    /// The listing of a table.
-    pub fn canon(&mut self, text: &[u8], out: &mut [u8]) -> Checked {
-        self.checked(text, None, out)
-    }
-
-    /// The lines of one root; the sign is 0 for `+`.
-    pub fn canon_root(&mut self, text: &[u8], id: u32, sign: u32, out: &mut [u8]) -> Checked {
-        self.checked(text, Some(RootOf { id, sign }), out)
-    }
-
-    /// The call alone, for timing and for the stack.
-    pub fn bare(&mut self, text: &[u8], out: &mut [u8]) -> Outcome {
-        outcome(self.call(text, None, out))
-    }
-
-    fn checked(&mut self, text: &[u8], root: Option<RootOf>, out: &mut [u8]) -> Checked {
-        self.before.clear();
-        self.before.extend_from_slice(out);
-        let outcome = outcome(self.call(text, root, out));
-        self.check_scratch()?;
-        self.check_output(outcome, out)?;
-        check_refusal(outcome, root)?;
-        Ok(outcome)
-    }
-
-    fn call(&mut self, text: &[u8], root: Option<RootOf>, out: &mut [u8]) -> u64 {
-        let [d, a, b, c, e, f, g] = self.lent;
-        let draft = self.draft[..d].as_mut_ptr();
-        let [rows, table, facts, starts, words, work] = &mut self.words;
-        let (rows, table, facts) = (&mut rows[..a], &mut table[..b], &mut facts[..c]);
-        let (starts, words, work) = (&mut starts[..e], &mut words[..f], &mut work[..g]);
-        let (rows, table, facts) = (rows.as_mut_ptr(), table.as_mut_ptr(), facts.as_mut_ptr());
-        let (starts, words, work) = (starts.as_mut_ptr(), words.as_mut_ptr(), work.as_mut_ptr());
-        let (t, n) = (text.as_ptr(), text.len());
-        let (o, m) = (out.as_mut_ptr(), out.len());
-        // Each pointer goes with the length of the slice that it was made of,
-        // and no two slices share a cell.
-        unsafe {
-            match root {
-                None => pekonusit_canon(
-                    t, n, o, m, draft, d, rows, a, table, b, facts, c, starts, e, words, f, work, g,
-                ),
-                Some(RootOf { id, sign }) => pekonusit_canon_root(
-                    t, n, id, sign, o, m, draft, d, rows, a, table, b, facts, c, starts, e, words,
-                    f, work, g,
-                ),
-            }
-        }
-    }
-
-    /// Every scratch cell is zero, and so are those that were not lent.
-    fn check_scratch(&self) -> Result<(), String> {
-        if !all_zero(&self.draft) {
-            return Err("the draft is not zero after the call".to_string());
-        }
-        match self.words.iter().position(|cells| !all_zero(cells)) {
-            Some(i) => Err(format!("{} is not zero after the call", SLICES[i + 1])),
-            None => Ok(()),
-        }
-    }
-
-    /// The output is as found, but for the bytes written.
-    fn check_output(&self, outcome: Outcome, out: &[u8]) -> Result<(), String> {
-        let written = match outcome {
-            Ok(written) if written > out.len() => {
-                return Err(format!("{written} bytes written into {}", out.len()))
-            }
-            Ok(written) => written,
-            Err(_) => 0,
-        };
-        if out[written..] != self.before[written..] {
-            return Err(format!("the output has changed behind byte {written}"));
-        }
-        Ok(())
-    }
-
-    /// Puts random numbers into the scratch: a few cells, or all of them.
-    pub fn soil(&mut self, rng: &mut Rng, all: bool) {
-        let lent = self.lent;
-        soil(rng, all, &mut self.draft[..lent[0]], |n| n as u8);
-        for (cells, length) in self.words.iter_mut().zip(&lent[1..]) {
-            soil(rng, all, &mut cells[..*length], |n| n as u32);
-        }
-    }
-
-    /// Wipes what a call that broke its promise may have left.
-    pub fn wipe(&mut self) {
-        self.draft.fill(0);
-        for cells in &mut self.words {
-            cells.fill(0);
-        }
-    }
-}
-
-fn soil<T>(rng: &mut Rng, all: bool, cells: &mut [T], made: fn(u64) -> T) {
-    if all {
-        for cell in cells.iter_mut() {
-            *cell = made(rng.next());
-        }
-        return;
-    }
-    // A scratch of no cell at all has none to soil.
-    let some = if cells.is_empty() { 0 } else { 20 };
-    for _ in 0..some {
-        let at = rng.below(cells.len());
-        cells[at] = made(rng.next());
-    }
-}
-
-/// Blocks are folded without a test inside, which the compiler makes fast.
-fn all_zero<T: Copy + Default + PartialEq + BitOr<Output = T>>(cells: &[T]) -> bool {
-    let zero = T::default();
-    cells
-        .chunks(1024)
-        .all(|block| block.iter().fold(zero, |sum, &cell| sum | cell) == zero)
-}
-
 fn outcome(result: u64) -> Outcome {
     let (number, low) = ((result >> 32) as u32, result as u32);
     match number {
@@ -230,20 +129,154 @@ fn outcome(result: u64) -> Outcome {
     }
 }
 
-/// A call's number is one of these, and 12 and 20 have line 0.
-fn check_refusal(outcome: Outcome, root: Option<RootOf>) -> Result<(), String> {
-    let Err(Refused { number, line }) = outcome else {
-        return Ok(());
-    };
-    let well = match (number, line) {
-        (1 | 4 | 5, line) => line > 0,
+/// The numbers that all calls give; 12 and 20 have line 0.
+fn of_any_call(refusal: Refused) -> bool {
+    match (refusal.number, refusal.line) {
+        (1 | 3 | 4 | 5, line) => line > 0,
         (2, _) => true,
-        (3, line) => line > 0 || root.is_some(),
         (12 | 20, line) => line == 0,
         _ => false,
-    };
-    match well {
-        true => Ok(()),
-        false => Err(format!("refused with {number}, line {line}")),
     }
+}
+
+/// The root that `canon_root` is called for.
+#[derive(Clone, Copy)]
+struct RootOf {
+    id: u32,
+    sign: u32,
+}
+
+/// canon and canon_root with scratch of their own.
+pub struct Canon {
+    pub scratch: Scratch<7>,
+}
+
+impl Canon {
+    pub fn new() -> Self {
+        let scratch = Scratch::new(CANON);
+        Canon { scratch }
+    }
+
+    /// The listing of a table.
+    pub fn canon(&mut self, text: &[u8], out: &mut [u8]) -> Checked {
+        let call = |scratch: &mut Scratch<7>, out: &mut [u8]| canon(scratch, text, None, out);
+        self.scratch.checked(out, call, of_any_call)
+    }
+
+    /// The lines of one root; the sign is 0 for `+`.
+    pub fn canon_root(&mut self, text: &[u8], id: u32, sign: u32, out: &mut [u8]) -> Checked {
+        let root = Some(RootOf { id, sign });
+        let call = |scratch: &mut Scratch<7>, out: &mut [u8]| canon(scratch, text, root, out);
+        let may = |refusal| refusal == refused(3, 0) || of_any_call(refusal);
+        self.scratch.checked(out, call, may)
+    }
+
+    /// The call alone, for timing and for the stack.
+    pub fn bare(&mut self, text: &[u8], out: &mut [u8]) -> Outcome {
+        canon(&mut self.scratch, text, None, out)
+    }
+}
+
+fn canon(scratch: &mut Scratch<7>, text: &[u8], root: Option<RootOf>, out: &mut [u8]) -> Outcome {
+    let (draft, d) = scratch.draft();
+    let [(rows, a), (table, b), (facts, c), (starts, e), (words, f), (work, g)] = scratch.words();
+    let (t, n) = (text.as_ptr(), text.len());
+    let (o, m) = (out.as_mut_ptr(), out.len());
+    // Each pointer goes with the length of the slice that it was made of, and
+    // no two slices share a cell.
+    outcome(unsafe {
+        match root {
+            None => pekonusit_canon(
+                t, n, o, m, draft, d, rows, a, table, b, facts, c, starts, e, words, f, work, g,
+            ),
+            Some(RootOf { id, sign }) => pekonusit_canon_root(
+                t, n, id, sign, o, m, draft, d, rows, a, table, b, facts, c, starts, e, words, f,
+                work, g,
+            ),
+        }
+    })
+}
+
+/// What recheck reads.
+#[derive(Clone, Default)]
+pub struct Input {
+    pub old: Vec<u8>,
+    pub new: Vec<u8>,
+    pub listing: Vec<u8>,
+}
+
+impl Input {
+    /// As the program recheck reads it.
+    pub fn text(&self) -> Vec<u8> {
+        let next = b"next\n";
+        [&self.old[..], next, &self.new, next, &self.listing].concat()
+    }
+}
+
+/// recheck with scratch of its own.
+pub struct Recheck {
+    pub scratch: Scratch<10>,
+}
+
+impl Recheck {
+    pub fn new() -> Self {
+        let scratch = Scratch::new(RECHECK);
+        Recheck { scratch }
+    }
+
+    /// The listing of the new table, with the roots that are kept or redone.
+    pub fn recheck(&mut self, input: &Input, out: &mut [u8]) -> Checked {
+        let call = |scratch: &mut Scratch<10>, out: &mut [u8]| recheck(scratch, input, out);
+        let may = |refusal: Refused| match refusal.number {
+            10 => refusal.line == 0,
+            11 => true,
+            _ => of_any_call(refusal),
+        };
+        self.scratch.checked(out, call, may)
+    }
+
+    /// The call alone, for timing and for the stack.
+    pub fn bare(&mut self, input: &Input, out: &mut [u8]) -> Outcome {
+        recheck(&mut self.scratch, input, out)
+    }
+}
+
+fn recheck(scratch: &mut Scratch<10>, input: &Input, out: &mut [u8]) -> Outcome {
+    let (draft, d) = scratch.draft();
+    let [(old_rows, a), (old_table, b), (rows, c), (table, e), (facts, f), (starts, g), (words, h), (work, i), (spans, j)] =
+        scratch.words();
+    let Input { old, new, listing } = input;
+    // As above.
+    outcome(unsafe {
+        pekonusit_recheck(
+            old.as_ptr(),
+            old.len(),
+            new.as_ptr(),
+            new.len(),
+            listing.as_ptr(),
+            listing.len(),
+            out.as_mut_ptr(),
+            out.len(),
+            draft,
+            d,
+            old_rows,
+            a,
+            old_table,
+            b,
+            rows,
+            c,
+            table,
+            e,
+            facts,
+            f,
+            starts,
+            g,
+            words,
+            h,
+            work,
+            i,
+            spans,
+            j,
+        )
+    })
 }

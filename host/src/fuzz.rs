@@ -7,9 +7,11 @@ use std::collections::BTreeMap;
 
 use oracle::{damage, gen, reader};
 
-use crate::ffi::{refused, Canon, Outcome, LENGTHS, OUTPUT, SLICES, SPARE};
+use crate::changes::{line_bounds, meaning_byte};
+use crate::ffi::{refused, Canon, Outcome, OUTPUT};
 use crate::rng::Rng;
-use crate::{kept, watch};
+use crate::scratch::Lent;
+use crate::{changes, kept, watch};
 
 const LONGEST: usize = 70_000;
 /// How many faults are told one by one.
@@ -74,7 +76,7 @@ pub fn run(count: u64, seed: u64) -> (u64, u64) {
         failed: 0,
     };
     let byte = &mut fuzz.rng;
-    fuzz.out.fill_with(|| byte.byte());
+    fuzz.out.fill_with(|| byte.next() as u8);
     for _ in 0..count {
         let kind = fuzz.kind();
         let text = (KINDS[kind].make)(&mut fuzz.rng);
@@ -101,13 +103,14 @@ impl Fuzz {
     /// One input through one call, and through more where the table is
     /// accepted.
     fn input(&mut self, kind: usize, text: &[u8]) -> Result<(), String> {
-        let short = self.lend();
+        let lent = self.canon.scratch.lend(&mut self.rng);
+        self.odd += u64::from(lent != Lent::Stated);
         let room = self.room();
-        let soiled = self.rng.percent(30);
+        let soiled = self.rng.chance(30, 100);
         let outcome = self.call(text, room, soiled)?;
-        self.lent_again();
+        self.canon.scratch.lend_stated();
         *self.came[kind].entry(came(outcome)).or_default() += 1;
-        if let Some(slice) = short {
+        if let Lent::Short(slice) = lent {
             return match outcome == Err(refused(20, 0)) {
                 true => Ok(()),
                 false => Err(format!("{outcome:?} with a short {slice}")),
@@ -145,7 +148,7 @@ impl Fuzz {
     /// The same table with an output of just its listing's length, and with
     /// one byte less.
     fn edge(&mut self, text: &[u8], length: usize) -> Result<(), String> {
-        if !self.rng.percent(25) {
+        if !self.rng.chance(25, 100) {
             return Ok(());
         }
         let listing = self.out[..length].to_vec();
@@ -172,41 +175,12 @@ impl Fuzz {
     fn call(&mut self, text: &[u8], room: usize, soiled: bool) -> Result<Outcome, String> {
         if soiled {
             self.soiled += 1;
-            let all = self.rng.percent(20);
-            self.canon.soil(&mut self.rng, all);
+            let all = self.rng.chance(20, 100);
+            self.canon.scratch.soil(&mut self.rng, all);
         }
         self.calls += 1;
         watch::begin(text);
         self.canon.canon(text, &mut self.out[..room])
-    }
-
-    /// Now and then a slice is lent one cell short, or far shorter, or all of
-    /// them are longer than asked for. Tells the short one.
-    fn lend(&mut self) -> Option<&'static str> {
-        match self.rng.below(100) {
-            0..=2 => {
-                self.odd += 1;
-                let i = self.rng.below(LENGTHS.len());
-                let less = match self.rng.percent(75) {
-                    true => 1,
-                    false => self.rng.range(1, LENGTHS[i]),
-                };
-                self.canon.lent[i] = LENGTHS[i] - less;
-                Some(SLICES[i])
-            }
-            3..=7 => {
-                self.odd += 1;
-                for length in &mut self.canon.lent {
-                    *length += self.rng.below(SPARE + 1);
-                }
-                None
-            }
-            _ => None,
-        }
-    }
-
-    fn lent_again(&mut self) {
-        self.canon.lent = LENGTHS;
     }
 
     fn room(&mut self) -> usize {
@@ -221,8 +195,7 @@ impl Fuzz {
 
     fn fail(&mut self, text: &[u8], fault: &str) {
         self.failed += 1;
-        self.lent_again();
-        self.canon.wipe();
+        self.canon.scratch.wipe();
         let file = kept::keep("differ", &format!("fuzz-{}", self.failed), text);
         if self.failed <= TOLD {
             println!("{file}: {fault}");
@@ -277,7 +250,7 @@ fn good(rng: &mut Rng) -> Vec<u8> {
     loop {
         let profile = rng.below(gen::PROFILES.len());
         let slow = matches!(gen::PROFILES[profile].name, "wide" | "long");
-        if !slow || rng.percent(8) {
+        if !slow || rng.chance(8, 100) {
             return gen::table(profile, rng.next()).to_text();
         }
     }
@@ -286,104 +259,9 @@ fn good(rng: &mut Rng) -> Vec<u8> {
 fn changed(rng: &mut Rng) -> Vec<u8> {
     let mut text = good(rng);
     for _ in 0..rng.pick(&[0, 1, 1, 1, 2, 3, 5]) {
-        change(rng, &mut text);
+        changes::change(rng, &mut text, good, change_budget);
     }
     text
-}
-
-fn change(rng: &mut Rng, text: &mut Vec<u8>) {
-    if text.is_empty() {
-        return text.push(b'\n');
-    }
-    let at = rng.below(text.len());
-    let length = rng.below(40).min(text.len() - at);
-    match rng.below(12) {
-        0 => text[at] ^= 1 << rng.below(8),
-        1 => text[at] = meaning_byte(rng),
-        2 => text.insert(at, meaning_byte(rng)),
-        3 => {
-            text.remove(at);
-        }
-        4 => text.truncate(at),
-        5 => {
-            text.drain(at..at + length);
-        }
-        6 => splice(rng, text, at),
-        7 => swap_lines(rng, text),
-        8 => repeat_line(rng, text),
-        9 | 10 => change_number(rng, text),
-        _ => change_budget(rng, text),
-    }
-}
-
-fn meaning_byte(rng: &mut Rng) -> u8 {
-    rng.pick(b"0123456789\t\t\n\n-+,:\\ax\x00\x7f\xff")
-}
-
-/// Bytes of another table, from any place.
-fn splice(rng: &mut Rng, text: &mut Vec<u8>, at: usize) {
-    let other = good(rng);
-    let from = rng.below(other.len());
-    let to = from + rng.below(200).min(other.len() - from);
-    text.splice(at..at, other[from..to].iter().copied());
-}
-
-fn line_bounds(text: &[u8]) -> Vec<(usize, usize)> {
-    let mut at = 0;
-    let lines = text.split_inclusive(|&b| b == b'\n');
-    lines
-        .map(|line| {
-            at += line.len();
-            (at - line.len(), at)
-        })
-        .collect()
-}
-
-fn swap_lines(rng: &mut Rng, text: &mut Vec<u8>) {
-    let lines = line_bounds(text);
-    let (a, b) = (rng.below(lines.len()), rng.below(lines.len()));
-    let ((a, b), (c, d)) = (lines[a.min(b)], lines[a.max(b)]);
-    if b <= c {
-        let changed = [
-            &text[..a],
-            &text[c..d],
-            &text[b..c],
-            &text[a..b],
-            &text[d..],
-        ]
-        .concat();
-        *text = changed;
-    }
-}
-
-fn repeat_line(rng: &mut Rng, text: &mut Vec<u8>) {
-    let lines = line_bounds(text);
-    let (from, to) = rng.pick(&lines);
-    let (at, _) = rng.pick(&lines);
-    let line = text[from..to].to_vec();
-    for _ in 0..rng.pick(&[1, 1, 1, 2, 70]) {
-        text.splice(at..at, line.iter().copied());
-    }
-}
-
-/// Another number in place of one.
-fn change_number(rng: &mut Rng, text: &mut Vec<u8>) {
-    let from = rng.below(text.len());
-    let Some(start) = text[from..].iter().position(u8::is_ascii_digit) else {
-        return;
-    };
-    let start = from + start;
-    let digits = text[start..].iter().take_while(|b| b.is_ascii_digit());
-    let end = start + digits.count();
-    let number = match rng.below(8) {
-        0 => "4294967295".to_string(),
-        1 => "4294967296".to_string(),
-        2 => "99999999999999999999999999999999".to_string(),
-        3 => "2048".to_string(),
-        4 => format!("0{}", rng.below(100)),
-        _ => rng.below(20).to_string(),
-    };
-    text.splice(start..end, number.into_bytes());
 }
 
 fn change_budget(rng: &mut Rng, text: &mut Vec<u8>) {
@@ -405,11 +283,11 @@ fn soup(rng: &mut Rng) -> Vec<u8> {
         &["root"],
         &["frozen", "budget", "answers", ""],
     ];
-    let n = rng.range(1, 30);
+    let n = rng.range(1, 30) as usize;
     for words in &sections[..5] {
         let lines = match words[0] {
-            "name" => rng.range(2, 4),
-            "root" => rng.range(1, 4),
+            "name" => rng.range(2, 4) as usize,
+            "root" => rng.range(1, 4) as usize,
             "pair" | "mark" => rng.below(4),
             _ => n,
         };
@@ -488,11 +366,11 @@ fn bytes(rng: &mut Rng) -> Vec<u8> {
         16..=18 => rng.below(20_000),
         _ => rng.below(LONGEST + 1),
     };
-    let budget = rng.percent(50);
-    let any = rng.percent(50);
+    let budget = rng.chance(50, 100);
+    let any = rng.chance(50, 100);
     let mut text: Vec<u8> = (0..length)
         .map(|_| match any {
-            true => rng.byte(),
+            true => rng.next() as u8,
             false => meaning_byte(rng),
         })
         .collect();

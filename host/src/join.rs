@@ -1,7 +1,9 @@
 //! Several tables in one.
 
 use oracle::table::Entry;
-use oracle::{Root, Set, Table};
+use oracle::{gen, reader, Root, Set, Table};
+
+use crate::rng::Rng;
 
 /// A table behind another, with at most so many of its roots: ids are moved,
 /// names are shared.
@@ -45,8 +47,25 @@ pub fn behind(first: &Table, next: &Table, most: usize) -> Table {
     whole
 }
 
-fn change(entry: &Entry, id: impl Fn(u32) -> u32, key: impl Fn(u32) -> u32) -> Entry {
-    let ids = |list: &[u32]| list.iter().map(|&a| id(a)).collect();
+/// Tables of several profiles in one, their roots in any order, so that what
+/// a root leaves behind meets roots of other kinds.
+pub fn several(seed: u64, index: u64) -> Option<Table> {
+    let mut rng = Rng::new(seed ^ index.rotate_left(32));
+    let mut whole = Table::default();
+    for _ in 0..rng.range(2, 5) {
+        let next = gen::table(rng.below(gen::PROFILES.len()), rng.next());
+        let longer = behind(&whole, &next, 8);
+        if reader::read(&longer.to_text()).is_ok() {
+            whole = longer;
+        }
+    }
+    rng.shuffle(&mut whole.roots);
+    Some(whole).filter(|whole| !whole.roots.is_empty())
+}
+
+/// An entry with other ids and keys in place of its own.
+pub fn change(entry: &Entry, mut id: impl FnMut(u32) -> u32, key: impl Fn(u32) -> u32) -> Entry {
+    let mut ids = |list: &[u32]| list.iter().map(|&a| id(a)).collect();
     match entry {
         Entry::Var { lowers, uppers } => Entry::Var {
             lowers: ids(lowers),
@@ -58,7 +77,7 @@ fn change(entry: &Entry, id: impl Fn(u32) -> u32, key: impl Fn(u32) -> u32) -> E
         Entry::Fn(a, b) => Entry::Fn(id(*a), id(*b)),
         Entry::Set(set) => Entry::Set(Set {
             fields: set.fields.iter().map(|&(k, a)| (key(k), id(a))).collect(),
-            dyn_ty: set.dyn_ty.map(&id),
+            dyn_ty: set.dyn_ty.map(&mut id),
             open: set.open,
             optional: set.optional.iter().map(|&k| key(k)).collect(),
         }),

@@ -2,16 +2,26 @@
 //! fuzzed, taken to its edges, and timed.
 
 mod bench;
+mod changes;
 mod compare;
 mod draft;
 mod edges;
+mod edits;
 mod ffi;
 mod fuzz;
 mod join;
 mod kept;
 mod lines;
+mod model;
+mod old;
+mod processes;
+mod recheck;
+mod recheck_edges;
+#[path = "../../oracle/src/rng.rs"]
 mod rng;
+mod scratch;
 mod stack;
+mod touched;
 mod watch;
 
 use std::process::ExitCode;
@@ -20,9 +30,11 @@ use std::thread;
 const HELP: &str = "\
 host compare COUNT [SEED]   COUNT roots of random tables, ours beside the Rust's
 host fuzz COUNT [SEED]      COUNT damaged and random inputs
+host recheck COUNT [SEED]   COUNT pairs of tables, and more damaged inputs
 host edges                  each refusal at its edge
-host stack                  the stack that a call takes on deep inputs
-host bench                  our time per root beside the Rust's
+host stack                  the stack that the calls take on deep inputs
+host bench                  our time per root beside the Rust's, and recheck's
+host bench recheck          recheck's alone
 ";
 
 /// A caller's thread may have no more.
@@ -59,9 +71,12 @@ fn job(arguments: &[String]) -> Option<(String, Job)> {
         ["compare", count, seed] => counted(number(count)?, number(seed)?, compare::run),
         ["fuzz", count] => counted(number(count)?, 0, fuzz::run),
         ["fuzz", count, seed] => counted(number(count)?, number(seed)?, fuzz::run),
+        ["recheck", count] => counted(number(count)?, 0, recheck::run),
+        ["recheck", count, seed] => counted(number(count)?, number(seed)?, recheck::run),
         ["edges"] => Box::new(edges::run),
         ["stack"] => Box::new(stack::run),
         ["bench"] => Box::new(bench::run),
+        ["bench", "recheck"] => Box::new(bench::rechecked),
         _ => return None,
     };
     Some((arguments[0].to_string(), job))

@@ -1,26 +1,29 @@
-//! How much stack a call takes on inputs that nest deeply, on a thread of
-//! 2 MiB.
+//! How much stack a call takes on inputs that nest deeply. The thread that
+//! measures has more than a caller's, so that a call that takes too much is
+//! told of.
 
 use std::hint::black_box;
 use std::mem::MaybeUninit;
 use std::thread;
 
-use oracle::gen;
+use oracle::table::Entry;
+use oracle::{gen, reader, Table};
 
 use crate::draft::Draft;
-use crate::ffi::{Canon, Outcome};
+use crate::ffi::{Canon, Input, Outcome, Recheck};
 
-const STACK: usize = 2 << 20;
+const STACK: usize = 6 << 20;
 /// A call must stay below this.
 const MOST: usize = 1 << 20;
-/// So much below the caller's frame is painted before a call.
-const PAINTED: usize = 1_950_000;
-const PAINT: u8 = 0xc3;
+/// So many words below the caller's frame are painted before a call.
+const PAINTED: usize = (4 << 20) / WORD;
+const PAINT: u64 = 0xc3c3_c3c3_c3c3_c3c3;
+const WORD: usize = size_of::<u64>();
 /// Tables of each profile.
 const SEEDS: u64 = 40;
 
 struct Deep {
-    name: String,
+    name: &'static str,
     text: Vec<u8>,
 }
 
@@ -31,38 +34,80 @@ pub fn run() -> (u64, u64) {
     joined.expect("the measuring thread ends")
 }
 
+struct Measuring {
+    canon: Canon,
+    recheck: Recheck,
+    out: Vec<u8>,
+    passed: u64,
+    failed: u64,
+    worst: usize,
+}
+
 fn measure_all() -> (u64, u64) {
-    let mut canon = Canon::new();
-    let mut out = vec![0; 1 << 20];
-    let (mut passed, mut failed, mut worst) = (0, 0, 0);
-    println!("| input | outcome | stack bytes |");
-    println!("|---|---|---|");
+    let mut all = Measuring {
+        canon: Canon::new(),
+        recheck: Recheck::new(),
+        out: vec![0; 1 << 20],
+        passed: 0,
+        failed: 0,
+        worst: 0,
+    };
+    println!("| input | outcome | canon, stack bytes | recheck, stack bytes |");
+    println!("|---|---|---|---|");
     for deep in inputs() {
-        let (used, outcome) = measure(&mut canon, &deep.text, &mut out);
-        let told = told(outcome, &out);
-        println!("| {} | {told} | {used} |", deep.name);
-        match used < MOST {
-            true => passed += 1,
-            false => failed += 1,
-        }
-        worst = worst.max(used);
+        let (used, outcome) = all.measure(&deep.text);
+        let told = told(outcome, &all.out);
+        all.row(deep.name, &told, used);
     }
     for (number, profile) in gen::PROFILES.iter().enumerate() {
-        let mut most = 0;
-        for seed in 0..SEEDS {
-            let text = gen::table(number, seed).to_text();
-            most = most.max(measure(&mut canon, &text, &mut out).0);
-        }
-        println!("| {SEEDS} tables of {} | | {most} |", profile.name);
-        match most < MOST {
-            true => passed += 1,
-            false => failed += 1,
-        }
-        worst = worst.max(most);
+        let tables = (0..SEEDS).map(|seed| gen::table(number, seed).to_text());
+        let most = tables.fold([0; 2], |most, text| {
+            let (used, _) = all.measure(&text);
+            [most[0].max(used[0]), most[1].max(used[1])]
+        });
+        all.row(&format!("{SEEDS} tables of {}", profile.name), "", most);
     }
     println!();
+    let worst = all.worst;
     println!("worst: {worst} bytes of stack; a call must stay below {MOST}");
-    (passed, failed)
+    (all.passed, all.failed)
+}
+
+impl Measuring {
+    /// What canon and recheck take, where recheck redoes every root.
+    fn measure(&mut self, text: &[u8]) -> ([usize; 2], Outcome) {
+        let input = all_redone(text);
+        let recheck = measured(|| self.recheck.bare(&input, &mut self.out)).0;
+        let (canon, outcome) = measured(|| self.canon.bare(text, &mut self.out));
+        ([canon, recheck], outcome)
+    }
+
+    fn row(&mut self, name: &str, told: &str, used: [usize; 2]) {
+        let [canon, recheck] = used;
+        println!("| {name} | {told} | {canon} | {recheck} |");
+        let most = canon.max(recheck);
+        match most < MOST {
+            true => self.passed += 1,
+            false => self.failed += 1,
+        }
+        self.worst = self.worst.max(most);
+    }
+}
+
+/// An old table whose roots' entries differ, and an old listing in form.
+fn all_redone(text: &[u8]) -> Input {
+    let new = reader::read(text).unwrap_or_default();
+    let mut old = new.clone();
+    let mut listing = format!("answers\t{}\n", new.roots.len());
+    for root in &new.roots {
+        old.entries[root.id as usize] = Entry::Prim(31);
+        listing.push_str(&format!("refused\t{}\t{}\t6\n", root.id, root.sign()));
+    }
+    Input {
+        old: Table::to_text(&old),
+        new: text.to_vec(),
+        listing: listing.into_bytes(),
+    }
 }
 
 /// The first line behind `answers`, without its word.
@@ -77,17 +122,17 @@ fn told(outcome: Outcome, out: &[u8]) -> String {
 
 /// A call between painting the stack and looking how far the paint is gone.
 #[inline(never)]
-fn measure(canon: &mut Canon, text: &[u8], out: &mut [u8]) -> (usize, Outcome) {
+fn measured(call: impl FnOnce() -> Outcome) -> (usize, Outcome) {
     let lowest = paint();
-    let outcome = canon.bare(text, out);
-    (PAINTED - still_painted(lowest), outcome)
+    let outcome = call();
+    ((PAINTED - still_painted(lowest)) * WORD, outcome)
 }
 
 /// Paints what lies below the caller's frame and tells where it begins.
 #[inline(never)]
 fn paint() -> usize {
-    let mut area = MaybeUninit::<[u8; PAINTED]>::uninit();
-    let lowest = area.as_mut_ptr().cast::<u8>();
+    let mut area = MaybeUninit::<[u64; PAINTED]>::uninit();
+    let lowest = area.as_mut_ptr().cast::<u64>();
     for i in 0..PAINTED {
         // Inside the area.
         unsafe { lowest.add(i).write_volatile(PAINT) };
@@ -95,12 +140,12 @@ fn paint() -> usize {
     black_box(lowest as usize)
 }
 
-/// How many bytes from `lowest` on still have the paint.
+/// How many words from `lowest` on still have the paint.
 #[inline(never)]
 fn still_painted(lowest: usize) -> usize {
     let mut count = 0;
     while count < PAINTED {
-        let at = (lowest + count) as *const u8;
+        let at = (lowest + count * WORD) as *const u64;
         // On this thread's own stack, which stays mapped; nobody owns it now.
         if unsafe { at.read_volatile() } != PAINT {
             break;
@@ -126,16 +171,38 @@ fn inputs() -> Vec<Deep> {
         deep("unions and intersections, 1,960 deep, negated", negated()),
         deep("2,000 lists, walked from the top", walked()),
         deep("two members of 950 lists, sorted", sorted()),
-        deep("a preserved chain 1,920 deep, negated", preserved(640, 0)),
-        deep("one 3,000 deep", preserved(1_000, 0)),
-        deep("one 2,760 deep below 90 intersections", preserved(920, 90)),
+        deep("a preserved chain 1,920 deep, negated", preserved(640)),
+        deep(
+            "a chain of both polarities, 4,020 deep, negated",
+            two_ways(670, None),
+        ),
+        deep(
+            "one 3,840 deep below 90 intersections",
+            two_ways(640, Some(within_inter)),
+        ),
+        deep(
+            "one 3,840 deep below 90 variables",
+            two_ways(640, Some(within_var)),
+        ),
+        deep("a field merged 4,000 deep", merged()),
+        deep(
+            "two members with one, sorted",
+            merged_and_sorted(0, within_inter),
+        ),
+        deep(
+            "sorted below 90 intersections",
+            merged_and_sorted(90, within_inter),
+        ),
+        deep(
+            "sorted below 90 variables",
+            merged_and_sorted(90, within_var),
+        ),
         deep("4,096 nodes", many_nodes()),
         deep("16,384 cells", many_cells()),
     ]
 }
 
-fn deep(name: &str, text: Vec<u8>) -> Deep {
-    let name = name.to_string();
+fn deep(name: &'static str, text: Vec<u8>) -> Deep {
     Deep { name, text }
 }
 
@@ -148,7 +215,7 @@ fn one_prim() -> Vec<u8> {
 
 /// As many keys in progress as there may be. Entries 0 and 1 are a prim and
 /// a named type.
-fn nested(around: fn(&mut Draft, u32) -> u32) -> Vec<u8> {
+fn nested(around: Around) -> Vec<u8> {
     let mut draft = Draft::with_names(1);
     let prim = draft.prim(0);
     let mut last = draft.named(0, prim);
@@ -230,9 +297,8 @@ fn negated() -> Vec<u8> {
 /// Variables of one class, reached in both polarities: in the second pass
 /// each gives an intersection of itself and the intersection of its two upper
 /// bounds, one of which is a union with the next: three levels for two
-/// entries. The chain is negated below `around` intersections. Negation goes
-/// all the way down before it finds that there is no room for its nodes.
-fn preserved(count: u32, around: u32) -> Vec<u8> {
+/// entries. Negation goes all the way down before it stores a level.
+fn preserved(count: u32) -> Vec<u8> {
     let mut draft = Draft::with_names(60);
     let prim = draft.prim(0);
     let (a, b) = (draft.named(0, prim), draft.list(prim));
@@ -249,17 +315,112 @@ fn preserved(count: u32, around: u32) -> Vec<u8> {
         .iter()
         .map(|&var| draft.lambda(var, prim))
         .collect();
-    let mut top = draft.neg(last);
-    for _ in 0..around {
-        top = draft.inter(top, a);
-    }
     // And one in a positive place.
-    fields.extend([top, last]);
+    fields.extend([draft.neg(last), last]);
     let set = draft.set(&fields, &[]);
     for &var in &vars[1..] {
         draft.line(&format!("pair>{var}>{}", vars[0]));
     }
     draft.root(set);
+    draft.text()
+}
+
+/// An entry around another.
+type Around = fn(&mut Draft, u32) -> u32;
+
+/// With a named type, which stands at entry 1.
+fn within_inter(draft: &mut Draft, a: u32) -> u32 {
+    draft.inter(a, 1)
+}
+
+fn within_var(draft: &mut Draft, a: u32) -> u32 {
+    draft.var(&[a], &[a])
+}
+
+fn around(draft: &mut Draft, a: u32, count: u32, around: Around) -> u32 {
+    (0..count).fold(a, |a, _| around(draft, a))
+}
+
+/// The deepest that negation finds: the same variables are a chain of unions
+/// and intersections by their lower bounds, and another by their upper bounds,
+/// three levels for each variable in either. At the second chain's end a
+/// variable without upper bounds falls back to the first chain. The first pass
+/// has none of these levels, since there the class's variable is a filler.
+fn two_ways(count: u32, within: Option<Around>) -> Vec<u8> {
+    let mut draft = Draft::with_names(60);
+    let prim = draft.prim(0);
+    let named = draft.named(0, prim);
+    let class = draft.var(&[], &[]);
+    let itself = draft.tyvar(class);
+    // Its lower bound is the entry behind the chain.
+    let turn = draft.var(&[5 + 3 * count], &[]);
+    let (mut upper, mut lower) = (turn, named);
+    let mut vars = Vec::new();
+    for _ in 0..count {
+        let union = draft.union(upper, itself);
+        let inter = draft.inter(lower, itself);
+        let var = draft.var(&[inter, itself], &[union, itself]);
+        draft.line(&format!("pair>{var}>{class}"));
+        vars.push(var);
+        (upper, lower) = (var, var);
+    }
+    draft.inter(lower, itself);
+    // Step by step, so that all of it is cached when the negation is visited.
+    let mut steps = steps(&vars);
+    steps.push(upper);
+    let negative = draft.set(&[&[turn], &steps[..]].concat(), &[]);
+    let negative = draft.lambda(negative, prim);
+    let neg = draft.neg(upper);
+    let top = match within {
+        Some(within) => around(&mut draft, neg, 90, within),
+        None => neg,
+    };
+    steps.extend([negative, top]);
+    let set = draft.set(&steps, &[]);
+    draft.root(set);
+    draft.text()
+}
+
+/// Variables whose upper bounds are 125 sets of one field, which has two types
+/// in turn, and the variable before. Merging them, each set puts an
+/// intersection around the field's type: 4,000 of them with the last variable,
+/// and one less with another beside it.
+fn merged_fields(draft: &mut Draft) -> [u32; 2] {
+    let prim = draft.prim(0);
+    let types = [draft.named(0, prim), prim];
+    let types = types.iter().cycle().take(125);
+    let sets: Vec<u32> = types.map(|&a| draft.set(&[a], &[])).collect();
+    // A union with it is a bound that is no variable, and of the same type.
+    let filler = draft.tyvar(u32::MAX);
+    let mut last = sets[1];
+    for _ in 0..31 {
+        let whole = draft.union(last, filler);
+        last = draft.var(&[], &[&[whole], &sets[..]].concat());
+    }
+    let whole = draft.union(last, filler);
+    [125, 124].map(|most| draft.var(&[], &[&[whole], &sets[..most]].concat()))
+}
+
+/// The walk goes down all the way.
+fn merged() -> Vec<u8> {
+    let mut draft = Draft::with_names(1);
+    let [last, _] = merged_fields(&mut draft);
+    draft.line(&format!("root>{last}>-"));
+    draft.text()
+}
+
+/// Two unions share the two sets, and the order compares level by level. The
+/// sets are cached by then.
+fn merged_and_sorted(count: u32, within: Around) -> Vec<u8> {
+    let mut draft = Draft::with_names(3);
+    let [last, other] = merged_fields(&mut draft);
+    let both = draft.union(last, other);
+    let (a, b) = (draft.named(0, 0), draft.named(1, 0));
+    let (first, second) = (draft.union(both, a), draft.union(both, b));
+    let inter = draft.inter(first, second);
+    let top = around(&mut draft, inter, count, within);
+    let set = draft.set(&[last, other, top], &[]);
+    draft.line(&format!("root>{set}>-"));
     draft.text()
 }
 

@@ -1,30 +1,28 @@
 // The Canonicalizer of collect.rs.
+use crate::equiv::rep;
+use crate::storage;
+use crate::storage::Entry;
+use crate::storage::EntryKind;
 use cells::add;
 use cells::at;
 use cells::get;
 use cells::place;
 use cells::put;
 use cells::set;
-use crate::equiv::rep;
-use crate::storage;
-use crate::storage::Canon;
-use crate::storage::Entry;
-use crate::storage::EntryKind;
 use lang_ty::arena;
 use lang_ty::arena::Given;
 use lang_ty::arena::OutputTy;
 use lang_ty::arena::Pass;
 use lang_ty::attrset;
-use members::factor;
-use members::flatten;
-use members::intersections;
-use members::lists;
 use members::lists::Flow;
-use members::lists::Listed;
-use members::lists::Members;
-use members::merge;
 use members::negate;
-use members::unions;
+use places::bounds;
+use places::concrete;
+use places::concrete::Tried;
+use places::concrete::Try;
+use places::given::Canon;
+use places::given::Facts;
+use places::lists::Settled;
 use rules::Polarity;
 
 // PolarityBits: bit 0 positive, bit 1 negative.
@@ -36,12 +34,8 @@ impl PolarityBits {
     pub fn add(self, pol: Polarity) -> PolarityBits {
         let b = self.bits;
         let more = match pol {
-            Polarity::Positive => {
-                if b % 2 == 0 { 1 } else { 0 }
-            }
-            Polarity::Negative => {
-                if b < 2 { 2 } else { 0 }
-            }
+            Polarity::Positive => { if b % 2 == 0 { 1 } else { 0 } }
+            Polarity::Negative => { if b < 2 { 2 } else { 0 } }
         };
         PolarityBits { bits: add(b, more) }
     }
@@ -51,30 +45,14 @@ impl PolarityBits {
     }
 }
 
-// What lies where in a pass's working slice: a key for each id and polarity, polarity bits, marks of ids seen, and lists held on the way.
+// What lies where in a pass's working slice: a key for each id and polarity, polarity bits, marks of ids seen, a negation's counters, and
+// lists held on the way.
 pub struct Work {}
 
 impl Work {
     pub const BITS: u32 = 4096;
     pub const SEEN: u32 = 6144;
-    pub const HELD: u32 = 8192;
-    pub const LENGTH: usize = 49152;
-}
-
-// What lies where in the facts of a table: representatives, marks, and the variables that the pass preserves.
-pub struct Facts {}
-
-impl Facts {
-    pub const MARKS: u32 = 2048;
-    pub const PRESERVED: u32 = 4096;
-    pub const LENGTH: usize = 6144;
-}
-
-impl Canon {
-    pub const KEYS: u32 = 96;
-    pub const OPERATIONS: u32 = 2147483647;
-    pub const INTERVAL: u32 = 512;
-    pub const CHAIN: u32 = 4;
+    pub const HELD: u32 = 8194;
 }
 
 // Which bounds of a list are expanded.
@@ -91,38 +69,10 @@ pub struct Begun {
     pub upper: bool,
 }
 
-// A list settled: a node, nothing left of it, or a refusal.
-pub enum Settled {
-    Node(u32, Pass),
-    Empty(Pass),
-    Refused(u32),
-}
-
-pub enum Both {
-    Nodes(u32, u32, Pass),
-    Refused(u32),
-}
-
-// An intersection tried: a node, a contradiction with the first member of all, or a refusal.
-pub enum Tried {
-    Node(u32, Pass),
-    Contradiction(u32, Pass),
-    Refused(u32),
-}
-
-fn is_positive(pol: Polarity) -> bool {
-    match pol {
-        Polarity::Positive => true,
-        Polarity::Negative => false,
-    }
-}
-
-// The kind of node that bounds of a place make.
-fn composite(pol: Polarity) -> u32 {
-    match pol {
-        Polarity::Positive => OutputTy::UNION,
-        Polarity::Negative => OutputTy::INTERSECTION,
-    }
+// What a variable's own rule begins with: itself, or so many bounds held, beside which it stays if it is preserved.
+pub enum Own {
+    Variable,
+    Bounds(u32, bool),
 }
 
 // The place of id's key of a polarity.
@@ -204,16 +154,7 @@ fn hold_if(work: &mut [u32], h: u32, k: u32, b: u32, kept: bool) -> u32 {
 }
 
 // The bounds that are wanted of the list at l, held from h on; how many there are.
-fn hold_bounds(
-    rows: &[u32],
-    table: &[u32],
-    facts: &[u32],
-    c: Canon,
-    work: &mut [u32],
-    h: u32,
-    l: u32,
-    which: Which,
-) -> u32 {
+fn hold_bounds(rows: &[u32], table: &[u32], facts: &[u32], c: Canon, work: &mut [u32], h: u32, l: u32, which: Which) -> u32 {
     let n = at(table, l);
     let mut k = 0;
     let mut i = 0;
@@ -264,106 +205,9 @@ fn deduplicated(work: &mut [u32], h: u32, n: u32) -> u32 {
     k
 }
 
-// A list as a node: Top where all members of a positive place cancelled, nothing, a sole member, or a composite.
-fn settle(starts: &mut [u32], words: &mut [u32], q: Pass, m: Members, kind: u32, cancelled: bool) -> Settled {
-    let ms = m.at;
-    let n = m.count;
-    if n == 0 && !cancelled {
-        return Settled::Empty(q);
-    }
-    if n == 1 {
-        return Settled::Node(ms[0], q);
-    }
-    if n == 0 {
-        return as_settled(arena::store_leaf(starts, words, q, OutputTy::TOP));
-    }
-    as_settled(arena::store_list(starts, words, q, kind, &ms, 0, n))
-}
-
-fn as_settled(g: Given) -> Settled {
-    match g {
-        Given::Node(x, q) => Settled::Node(x, q),
-        Given::Refused(k) => Settled::Refused(k),
-    }
-}
-
-// The rest of a list where its steps go on.
-fn settle_listed(starts: &mut [u32], words: &mut [u32], l: Listed, kind: u32, cancelled: bool) -> Settled {
-    let flow = l.flow;
-    match flow {
-        Flow::On(q) => settle(starts, words, q, l.members, kind, cancelled),
-        Flow::Refused(k) => Settled::Refused(k),
-    }
-}
-
-// expand_bounds, step 4 in a negative place, once the sets are merged.
-fn settle_negative(starts: &mut [u32], words: &mut [u32], c: Canon, l: Listed) -> Settled {
-    let flow = l.flow;
-    match flow {
-        Flow::On(q) => {
-            let m = intersections::remove_redundant_negations(starts, words, c.functor, l.members);
-            if intersections::has_type_contradiction(starts, words, c.functor, m) {
-                return as_settled(arena::store_leaf(starts, words, q, OutputTy::BOTTOM));
-            }
-            let f = factor::factor_shared_from_intersection(starts, words, q, m);
-            settle_listed(starts, words, f, OutputTy::INTERSECTION, false)
-        }
-        Flow::Refused(k) => Settled::Refused(k),
-    }
-}
-
-// expand_bounds, steps 2 to 5: the answers of the bounds, flattened, without fillers, normalized and settled.
-fn normalize(
-    facts: &[u32],
-    c: Canon,
-    starts: &mut [u32],
-    words: &mut [u32],
-    work: &mut [u32],
-    h: u32,
-    answers: Listed,
-    pol: Polarity,
-) -> Settled {
-    let flow = answers.flow;
-    let Flow::On(q) = flow else {
-        return refused_flow(flow);
-    };
-    let flat = flatten::flatten_composite(starts, words, answers.members, composite(pol));
-    if Pass::MEMBERS < flat.count {
-        return Settled::Refused(7);
-    }
-    let m = lists::concrete(starts, words, facts, Facts::PRESERVED, c.count, flat);
-    match pol {
-        Polarity::Positive => {
-            let p = unions::remove_tautological_pairs(starts, words, m);
-            let a = unions::absorb_subsumed_union_members(starts, words, p);
-            settle(starts, words, q, a, OutputTy::UNION, 0 < m.count)
-        }
-        Polarity::Negative => {
-            let one = merge::merge_attrset_intersection(starts, words, work, h, q, m);
-            settle_negative(starts, words, c, one)
-        }
-    }
-}
-
-fn refused_flow(f: Flow) -> Settled {
-    match f {
-        Flow::On(q) => Settled::Empty(q),
-        Flow::Refused(k) => Settled::Refused(k),
-    }
-}
-
 // The list that a fallback begins, held from h on: in a negative place the lowers, unless the variable or its representative is marked; in
 // a positive place the atoms among the uppers.
-fn begin_list(
-    rows: &[u32],
-    table: &[u32],
-    facts: &[u32],
-    c: Canon,
-    work: &mut [u32],
-    h: u32,
-    id: u32,
-    pol: Polarity,
-) -> u32 {
+fn begin_list(rows: &[u32], table: &[u32], facts: &[u32], c: Canon, work: &mut [u32], h: u32, id: u32, pol: Polarity) -> u32 {
     let v = add(storage::row(rows, c, id), 1);
     match pol {
         Polarity::Positive => {
@@ -431,6 +275,43 @@ fn named_bound(rows: &[u32], table: &[u32], c: Canon, v: u32) -> arena::Found {
     find_named(rows, table, c, storage::uppers(table, v))
 }
 
+// The bounds by which the variable id with lists at v is expanded, held from h on: those that are no variables, or without any those of
+// other classes.
+fn own_bounds(
+    rows: &[u32],
+    table: &[u32],
+    facts: &[u32],
+    c: Canon,
+    work: &mut [u32],
+    h: u32,
+    id: u32,
+    v: u32,
+    pol: Polarity,
+) -> Own {
+    let l = match pol {
+        Polarity::Positive => v,
+        Polarity::Negative => storage::uppers(table, v),
+    };
+    let kept = is_preserved(facts, c, id);
+    let n = hold_bounds(rows, table, facts, c, work, h, l, Which::Concrete);
+    if n != 0 {
+        return Own::Bounds(n, kept);
+    }
+    if kept {
+        return Own::Variable;
+    }
+    let r = rep(facts, c.count, id);
+    Own::Bounds(hold_bounds(rows, table, facts, c, work, h, l, Which::OfOthers(r)), false)
+}
+
+// The kind of node that bounds of a place make.
+fn composite(pol: Polarity) -> u32 {
+    match pol {
+        Polarity::Positive => OutputTy::UNION,
+        Polarity::Negative => OutputTy::INTERSECTION,
+    }
+}
+
 // A variable of the pass's set stays beside what its bounds expand to, unless that is a TyVar or Bottom.
 fn preserving(facts: &[u32], c: Canon, starts: &mut [u32], words: &mut [u32], g: Given, id: u32, pol: Polarity) -> Given {
     let Given::Node(x, q) = g else {
@@ -447,205 +328,21 @@ fn preserving(facts: &[u32], c: Canon, starts: &mut [u32], words: &mut [u32], g:
     arena::store_both(starts, words, r, composite(pol), y, x)
 }
 
-fn lambda(starts: &mut [u32], words: &mut [u32], t: Both) -> Given {
-    match t {
-        Both::Nodes(x, y, q) => arena::store_two(starts, words, q, OutputTy::LAMBDA, x, y),
-        Both::Refused(k) => Given::Refused(k),
-    }
-}
-
-// A node around a node.
-fn around(starts: &mut [u32], words: &mut [u32], g: Given, kind: u32) -> Given {
-    match g {
-        Given::Node(x, q) => arena::store_one(starts, words, q, kind, x),
-        Given::Refused(k) => Given::Refused(k),
-    }
-}
-
-fn named(starts: &mut [u32], words: &mut [u32], g: Given, name: u32) -> Given {
-    match g {
-        Given::Node(x, q) => arena::store_two(starts, words, q, OutputTy::NAMED, name, x),
-        Given::Refused(k) => Given::Refused(k),
-    }
-}
-
-fn negation(starts: &mut [u32], words: &mut [u32], work: &mut [u32], h: u32, g: Given) -> Given {
-    match g {
-        Given::Node(x, q) => negate::negate_output_ty(starts, words, work, h, q, x),
-        Given::Refused(k) => Given::Refused(k),
-    }
-}
-
-// Both answers as a list of members.
-fn pair_of(x: u32, y: u32) -> Members {
-    let mut ms = [0u32; 128];
-    ms[0] = x;
-    ms[1] = y;
-    Members { count: 2, at: ms }
-}
-
-// The answer where a list was settled, or the first member before filtering.
-fn or_first(s: Settled, first: u32) -> Given {
-    match s {
-        Settled::Node(x, q) => Given::Node(x, q),
-        Settled::Empty(q) => Given::Node(first, q),
-        Settled::Refused(k) => Given::Refused(k),
-    }
-}
-
-// Ty::Union, once its members are visited.
-fn union_of(facts: &[u32], c: Canon, starts: &mut [u32], words: &mut [u32], t: Both, pol: Polarity) -> Given {
-    let Both::Nodes(x, y, q) = t else {
-        return refused_both(t);
-    };
-    let flat = flatten::flatten_composite(starts, words, pair_of(x, y), OutputTy::UNION);
-    if Pass::MEMBERS < flat.count {
-        return Given::Refused(7);
-    }
-    let m = lists::concrete(starts, words, facts, Facts::PRESERVED, c.count, flat);
-    let up = is_positive(pol);
-    let p = if up { unions::remove_tautological_pairs(starts, words, m) } else { m };
-    let a = unions::absorb_subsumed_union_members(starts, words, p);
-    let s = settle(starts, words, q, a, OutputTy::UNION, up && 0 < m.count);
-    let all = flat.at;
-    or_first(s, all[0])
-}
-
-fn refused_both(t: Both) -> Given {
-    match t {
-        Both::Nodes(x, _, q) => Given::Node(x, q),
-        Both::Refused(k) => Given::Refused(k),
-    }
-}
-
-// Ty::Inter, the normalization of a place.
-fn inter_normalized(
-    c: Canon,
-    starts: &mut [u32],
-    words: &mut [u32],
-    work: &mut [u32],
-    h: u32,
-    q: Pass,
-    m: Members,
-    pol: Polarity,
-) -> Listed {
-    match pol {
-        Polarity::Positive => {
-            let r = intersections::remove_redundant_negations(starts, words, c.functor, m);
-            let p = unions::remove_tautological_pairs(starts, words, r);
-            Listed {
-                flow: Flow::On(q),
-                members: p,
-            }
-        }
-        Polarity::Negative => {
-            let l = merge::merge_attrset_intersection(starts, words, work, h, q, m);
-            let flow = l.flow;
-            let r = intersections::remove_redundant_negations(starts, words, c.functor, l.members);
-            Listed { flow, members: r }
-        }
-    }
-}
-
-// Simplified and factored, where the steps before go on.
-fn inter_factored(c: Canon, starts: &mut [u32], words: &mut [u32], l: Listed) -> Listed {
-    let flow = l.flow;
-    match flow {
-        Flow::On(q) => {
-            let s = intersections::simplify_union_neg_intersection(starts, words, c.functor, q, l.members);
-            let next = s.flow;
-            match next {
-                Flow::On(r) => factor::factor_shared_from_intersection(starts, words, r, s.members),
-                Flow::Refused(_) => s,
-            }
-        }
-        Flow::Refused(_) => l,
-    }
-}
-
-// Ty::Inter, once its members do not contradict each other; first is the first member of the first try.
-fn inter_rest(
-    c: Canon,
-    starts: &mut [u32],
-    words: &mut [u32],
-    work: &mut [u32],
-    h: u32,
-    q: Pass,
-    m: Members,
-    first: u32,
-    pol: Polarity,
-) -> Given {
-    let l = inter_normalized(c, starts, words, work, h, q, m, pol);
-    let f = inter_factored(c, starts, words, l);
-    let s = settle_listed(starts, words, f, OutputTy::INTERSECTION, is_positive(pol) && 0 < m.count);
-    or_first(s, first)
-}
-
-// Ty::Inter, the first try.
-fn inter_first(
+// The expansion of a variable's bounds, beside the variable where it is preserved.
+fn expanded(
     facts: &[u32],
     c: Canon,
     starts: &mut [u32],
     words: &mut [u32],
-    work: &mut [u32],
-    h: u32,
-    t: Both,
+    g: Given,
+    id: u32,
     pol: Polarity,
-) -> Tried {
-    let Both::Nodes(x, y, q) = t else {
-        return as_tried(refused_both(t));
-    };
-    let flat = flatten::flatten_composite(starts, words, pair_of(x, y), OutputTy::INTERSECTION);
-    if Pass::MEMBERS < flat.count {
-        return Tried::Refused(7);
-    }
-    let all = flat.at;
-    let m = lists::concrete(starts, words, facts, Facts::PRESERVED, c.count, flat);
-    if intersections::has_type_contradiction(starts, words, c.functor, m) {
-        return Tried::Contradiction(all[0], q);
-    }
-    as_tried(inter_rest(c, starts, words, work, h, q, m, all[0], pol))
-}
-
-fn as_tried(g: Given) -> Tried {
-    match g {
-        Given::Node(x, q) => Tried::Node(x, q),
-        Given::Refused(k) => Tried::Refused(k),
-    }
-}
-
-// Ty::Inter, the retry's end: first is the first member of the first try.
-fn inter_second(
-    facts: &[u32],
-    c: Canon,
-    starts: &mut [u32],
-    words: &mut [u32],
-    work: &mut [u32],
-    h: u32,
-    t: Both,
-    first: u32,
-    pol: Polarity,
+    kept: bool,
 ) -> Given {
-    let Both::Nodes(x, y, q) = t else {
-        return refused_both(t);
-    };
-    let flat = flatten::flatten_composite(starts, words, pair_of(x, y), OutputTy::INTERSECTION);
-    if Pass::MEMBERS < flat.count {
-        return Given::Refused(7);
+    if kept {
+        return preserving(facts, c, starts, words, g, id, pol);
     }
-    let m = lists::concrete(starts, words, facts, Facts::PRESERVED, c.count, flat);
-    let l = intersections::simplify_union_neg_intersection(starts, words, c.functor, q, m);
-    let flow = l.flow;
-    match flow {
-        Flow::On(r) => {
-            let s = l.members;
-            if intersections::has_type_contradiction(starts, words, c.functor, s) {
-                return arena::store_leaf(starts, words, r, OutputTy::BOTTOM);
-            }
-            inter_rest(c, starts, words, work, h, r, s, first, pol)
-        }
-        Flow::Refused(k) => Given::Refused(k),
-    }
+    g
 }
 
 // A variable is tried again in the other polarity.
@@ -694,16 +391,113 @@ fn store_set(table: &[u32], a: u32, starts: &mut [u32], words: &mut [u32], held:
     arena::intern(starts, words, q, add(len, 1), add(two, k))
 }
 
-fn attr_set(table: &[u32], a: u32, starts: &mut [u32], words: &mut [u32], held: &[u32], h: u32, f: Flow) -> Given {
+// The id that stands i-th among the fields and the dyn of the set at a, which has n fields.
+fn set_child(table: &[u32], a: u32, n: u32, i: u32) -> u32 {
+    if i < n { attrset::field_type(table, a, i) } else { attrset::dyn_type(table, a) }
+}
+
+// The ids of the fields and the dyn of the set at a, held from h on; how many there are.
+fn hold_fields(table: &[u32], a: u32, work: &mut [u32], h: u32) -> u32 {
+    let f = attrset::fields(table, a);
+    let n = add(f, attrset::dyns(table, a));
+    let mut i = 0;
+    while i < n {
+        put(work, place(h, i), set_child(table, a, f, i));
+        i += 1;
+    }
+    n
+}
+
+fn hold_one(work: &mut [u32], h: u32, a: u32) -> u32 {
+    set(work, h, a);
+    1
+}
+
+fn hold_two(work: &mut [u32], h: u32, a: u32, b: u32) -> u32 {
+    set(work, h, a);
+    put(work, place(h, 1), b);
+    2
+}
+
+// The children of an entry that is neither a variable nor an intersection, held from h on; how many there are.
+fn hold_children(table: &[u32], work: &mut [u32], h: u32, e: Entry) -> u32 {
+    match e {
+        Entry::List(a) => hold_one(work, h, a),
+        Entry::Lambda(a, b) => hold_two(work, h, a, b),
+        Entry::AttrSet(a) => hold_fields(table, a, work, h),
+        Entry::Neg(a) => hold_one(work, h, a),
+        Entry::Named(_, a) => hold_one(work, h, a),
+        Entry::Union(a, b) => hold_two(work, h, a, b),
+        _ => 0,
+    }
+}
+
+// The polarity of an entry's first child: a parameter's and a negated one's is the other one.
+fn first_polarity(e: Entry, pol: Polarity) -> Polarity {
+    match e {
+        Entry::Lambda(_, _) => pol.flip(),
+        Entry::Neg(_) => pol.flip(),
+        _ => pol,
+    }
+}
+
+// The node of an entry of one child or none, whose answer is held at h. A table with a frozen entry is refused, so that none is met.
+fn made_of_one(
+    facts: &[u32],
+    c: Canon,
+    starts: &mut [u32],
+    words: &mut [u32],
+    work: &mut [u32],
+    h: u32,
+    q: Pass,
+    e: Entry,
+) -> Given {
+    let x = at(work, h);
+    match e {
+        Entry::Primitive(p) => arena::store_one(starts, words, q, OutputTy::PRIMITIVE, p),
+        Entry::TyVar(v) => variable(facts, c, starts, words, q, v),
+        Entry::List(_) => arena::store_one(starts, words, q, OutputTy::LIST, x),
+        Entry::Neg(_) => negate::negate_output_ty(starts, words, work, h, q, x),
+        Entry::Named(name, _) => arena::store_two(starts, words, q, OutputTy::NAMED, name, x),
+        _ => Given::Refused(5),
+    }
+}
+
+// The node of an entry whose children's answers are held from h on.
+fn made(
+    table: &[u32],
+    facts: &[u32],
+    c: Canon,
+    starts: &mut [u32],
+    words: &mut [u32],
+    work: &mut [u32],
+    h: u32,
+    f: Flow,
+    e: Entry,
+    pol: Polarity,
+) -> Given {
     match f {
-        Flow::On(q) => store_set(table, a, starts, words, held, h, q),
+        Flow::On(q) => match e {
+            Entry::Lambda(_, _) => {
+                let x = at(work, h);
+                let y = get(work, place(h, 1));
+                arena::store_two(starts, words, q, OutputTy::LAMBDA, x, y)
+            }
+            Entry::AttrSet(a) => store_set(table, a, starts, words, work, h, q),
+            Entry::Union(_, _) => concrete::union_of(facts, c, starts, words, work, h, q, pol),
+            _ => made_of_one(facts, c, starts, words, work, h, q, e),
+        },
         Flow::Refused(k) => Given::Refused(k),
     }
 }
 
-// The id that stands i-th among the fields and the dyn of the set at a, which has n fields.
-fn set_child(table: &[u32], a: u32, n: u32, i: u32) -> u32 {
-    if i < n { attrset::field_type(table, a, i) } else { attrset::dyn_type(table, a) }
+// A retry that contradicts itself too is Bottom.
+fn retried(starts: &mut [u32], words: &mut [u32], t: Tried) -> Given {
+    match t {
+        Tried::Node(x, q) => Given::Node(x, q),
+        Tried::Contradiction(_, q) => arena::store_leaf(starts, words, q, OutputTy::BOTTOM),
+        Tried::Refused(k) => Given::Refused(k),
+    }
 }
 
 // canonicalize_child: the node of id in a place of that polarity, with as many free keys as free says; held from h on is free.
@@ -762,37 +556,34 @@ fn rule(
     id: u32,
     pol: Polarity,
 ) -> Given {
-    match storage::entry_at(rows, table, c, id) {
+    let e = storage::entry_at(rows, table, c, id);
+    match e {
         Entry::Variable(v) => inner(rows, table, facts, c, starts, words, work, free, h, q, id, v, pol),
-        Entry::Primitive(p) => arena::store_one(starts, words, q, OutputTy::PRIMITIVE, p),
-        Entry::TyVar(x) => variable(facts, c, starts, words, q, x),
-        Entry::List(a) => {
-            let g = visit(rows, table, facts, c, starts, words, work, free, h, q, a, pol);
-            around(starts, words, g, OutputTy::LIST)
-        }
-        Entry::Lambda(a, b) => {
-            let t = two(rows, table, facts, c, starts, words, work, free, h, q, a, pol.flip(), b, pol);
-            lambda(starts, words, t)
-        }
-        Entry::AttrSet(a) => {
-            let f = fields(rows, table, facts, c, starts, words, work, free, h, q, a, pol);
-            attr_set(table, a, starts, words, work, h, f)
-        }
-        Entry::Neg(a) => {
-            let g = visit(rows, table, facts, c, starts, words, work, free, h, q, a, pol.flip());
-            negation(starts, words, work, h, g)
-        }
-        Entry::Named(name, a) => {
-            let g = visit(rows, table, facts, c, starts, words, work, free, h, q, a, pol);
-            named(starts, words, g, name)
-        }
         Entry::Inter(a, b) => inter(rows, table, facts, c, starts, words, work, free, h, q, a, b, pol),
-        Entry::Union(a, b) => {
-            let t = two(rows, table, facts, c, starts, words, work, free, h, q, a, pol, b, pol);
-            union_of(facts, c, starts, words, t, pol)
+        _ => {
+            let f = children(rows, table, facts, c, starts, words, work, free, h, q, e, pol);
+            made(table, facts, c, starts, words, work, h, f, e, pol)
         }
-        Entry::Frozen => Given::Refused(5),
     }
+}
+
+// The children of such an entry, held from h on and replaced by their answers.
+fn children(
+    rows: &[u32],
+    table: &[u32],
+    facts: &[u32],
+    c: Canon,
+    starts: &mut [u32],
+    words: &mut [u32],
+    work: &mut [u32],
+    free: u32,
+    h: u32,
+    q: Pass,
+    e: Entry,
+    pol: Polarity,
+) -> Flow {
+    let n = hold_children(table, work, h, e);
+    each(rows, table, facts, c, starts, words, work, free, h, q, n, first_polarity(e, pol), pol)
 }
 
 // canonicalize_inner for the variable id, whose bounds stand at v: a Named bound replaces it before its polarity is noted.
@@ -815,61 +606,13 @@ fn inner(
         return visit(rows, table, facts, c, starts, words, work, free, h, q, b, pol);
     }
     note(facts, c, work, id, pol);
-    let l = match pol {
-        Polarity::Positive => v,
-        Polarity::Negative => storage::uppers(table, v),
-    };
-    own(rows, table, facts, c, starts, words, work, free, h, q, id, l, pol)
-}
-
-// The variable id by the bounds of its list at l that are no variables, or without any.
-fn own(
-    rows: &[u32],
-    table: &[u32],
-    facts: &[u32],
-    c: Canon,
-    starts: &mut [u32],
-    words: &mut [u32],
-    work: &mut [u32],
-    free: u32,
-    h: u32,
-    q: Pass,
-    id: u32,
-    l: u32,
-    pol: Polarity,
-) -> Given {
-    let n = hold_bounds(rows, table, facts, c, work, h, l, Which::Concrete);
-    if n == 0 {
-        return bare(rows, table, facts, c, starts, words, work, free, h, q, id, l, pol);
+    match own_bounds(rows, table, facts, c, work, h, id, v, pol) {
+        Own::Variable => variable(facts, c, starts, words, q, id),
+        Own::Bounds(n, kept) => {
+            let g = expand(rows, table, facts, c, starts, words, work, free, h, q, Canon::CHAIN, none_begun(), n, id, pol);
+            expanded(facts, c, starts, words, g, id, pol, kept)
+        }
     }
-    let g = expand(rows, table, facts, c, starts, words, work, free, h, q, Canon::CHAIN, none_begun(), n, id, pol);
-    if is_preserved(facts, c, id) {
-        return preserving(facts, c, starts, words, g, id, pol);
-    }
-    g
-}
-
-// The variable id with no bound but variables: itself where it is preserved, or its bounds of other classes.
-fn bare(
-    rows: &[u32],
-    table: &[u32],
-    facts: &[u32],
-    c: Canon,
-    starts: &mut [u32],
-    words: &mut [u32],
-    work: &mut [u32],
-    free: u32,
-    h: u32,
-    q: Pass,
-    id: u32,
-    l: u32,
-    pol: Polarity,
-) -> Given {
-    if is_preserved(facts, c, id) {
-        return variable(facts, c, starts, words, q, id);
-    }
-    let n = hold_bounds(rows, table, facts, c, work, h, l, Which::OfOthers(rep(facts, c.count, id)));
-    expand(rows, table, facts, c, starts, words, work, free, h, q, Canon::CHAIN, none_begun(), n, id, pol)
 }
 
 // expand_bounds of the n bounds held from h on, but for its fallback.
@@ -888,8 +631,8 @@ fn gathered(
     pol: Polarity,
 ) -> Settled {
     let m = deduplicated(work, h, n);
-    let l = each(rows, table, facts, c, starts, words, work, free, h, q, m, pol);
-    normalize(facts, c, starts, words, work, h, l, pol)
+    let f = each(rows, table, facts, c, starts, words, work, free, h, q, m, pol, pol);
+    bounds::normalize(facts, c, starts, words, work, h, m, f, pol)
 }
 
 // expand_bounds of the n bounds held from h on, for the variable id; chain is how many fallbacks may still begin.
@@ -912,7 +655,7 @@ fn expand(
 ) -> Given {
     match gathered(rows, table, facts, c, starts, words, work, free, h, q, n, pol) {
         Settled::Node(x, r) => Given::Node(x, r),
-        Settled::Empty(r) => {
+        Settled::Empty(_, r) => {
             fallback(rows, table, facts, c, starts, words, work, free, h, r, chain, begun, id, pol)
         }
         Settled::Refused(k) => Given::Refused(k),
@@ -947,7 +690,7 @@ fn fallback(
     expand(rows, table, facts, c, starts, words, work, free, h, q, chain - 1, next, n, id, pol.flip())
 }
 
-// The answers of the n bounds held from h on; 7 where there are too many, once all are visited.
+// The n ids held from h on, each replaced by its answer: the first in a polarity of its own, the others in that of the place.
 fn each(
     rows: &[u32],
     table: &[u32],
@@ -960,82 +703,15 @@ fn each(
     h: u32,
     p: Pass,
     n: u32,
+    first: Polarity,
     pol: Polarity,
-) -> Listed {
-    let mut out = [0u32; 128];
+) -> Flow {
     let mut q = p;
     let mut i = 0;
     while i < n {
         let b = get(work, place(h, i));
-        match visit(rows, table, facts, c, starts, words, work, free, add(h, n), q, b, pol) {
-            Given::Node(x, r) => {
-                set(&mut out, i, x);
-                q = r;
-                i += 1;
-            }
-            Given::Refused(k) => {
-                return lists::refused(k);
-            }
-        }
-    }
-    if Pass::MEMBERS < n {
-        return lists::refused(7);
-    }
-    let m = Members { count: n, at: out };
-    Listed {
-        flow: Flow::On(q),
-        members: m,
-    }
-}
-
-// The answers of two ids, each in its polarity.
-fn two(
-    rows: &[u32],
-    table: &[u32],
-    facts: &[u32],
-    c: Canon,
-    starts: &mut [u32],
-    words: &mut [u32],
-    work: &mut [u32],
-    free: u32,
-    h: u32,
-    p: Pass,
-    a: u32,
-    pa: Polarity,
-    b: u32,
-    pb: Polarity,
-) -> Both {
-    match visit(rows, table, facts, c, starts, words, work, free, h, p, a, pa) {
-        Given::Node(x, q) => match visit(rows, table, facts, c, starts, words, work, free, h, q, b, pb) {
-            Given::Node(y, r) => Both::Nodes(x, y, r),
-            Given::Refused(k) => Both::Refused(k),
-        },
-        Given::Refused(k) => Both::Refused(k),
-    }
-}
-
-// The answers of the fields and the dyn of the set at a, held from h on.
-fn fields(
-    rows: &[u32],
-    table: &[u32],
-    facts: &[u32],
-    c: Canon,
-    starts: &mut [u32],
-    words: &mut [u32],
-    work: &mut [u32],
-    free: u32,
-    h: u32,
-    p: Pass,
-    a: u32,
-    pol: Polarity,
-) -> Flow {
-    let f = attrset::fields(table, a);
-    let n = add(f, attrset::dyns(table, a));
-    let mut q = p;
-    let mut i = 0;
-    while i < n {
-        let b = set_child(table, a, f, i);
-        match visit(rows, table, facts, c, starts, words, work, free, add(h, n), q, b, pol) {
+        let side = if i == 0 { first } else { pol };
+        match visit(rows, table, facts, c, starts, words, work, free, add(h, n), q, b, side) {
             Given::Node(x, r) => {
                 put(work, place(h, i), x);
                 q = r;
@@ -1065,9 +741,10 @@ fn inter(
     b: u32,
     pol: Polarity,
 ) -> Given {
-    let t = two(rows, table, facts, c, starts, words, work, free, h, q, a, pol, b, pol);
-    let first = inter_first(facts, c, starts, words, work, h, t, pol);
-    again(rows, table, facts, c, starts, words, work, free, h, first, a, b, pol)
+    let n = hold_two(work, h, a, b);
+    let f = each(rows, table, facts, c, starts, words, work, free, h, q, n, pol, pol);
+    let t = concrete::inter_tried(facts, c, starts, words, work, h, f, Try::First, pol);
+    again(rows, table, facts, c, starts, words, work, free, h, t, a, b, pol)
 }
 
 // A contradiction with a variable among the members is tried again; without one it is Bottom.
@@ -1081,21 +758,18 @@ fn again(
     work: &mut [u32],
     free: u32,
     h: u32,
-    first: Tried,
+    t: Tried,
     a: u32,
     b: u32,
     pol: Polarity,
 ) -> Given {
-    match first {
-        Tried::Node(x, q) => Given::Node(x, q),
-        Tried::Contradiction(y, q) => {
-            if !storage::is_variable(rows, table, c, a) && !storage::is_variable(rows, table, c, b) {
-                return arena::store_leaf(starts, words, q, OutputTy::BOTTOM);
-            }
-            retry(rows, table, facts, c, starts, words, work, free, h, q, y, a, b, pol)
-        }
-        Tried::Refused(k) => Given::Refused(k),
+    let Tried::Contradiction(y, q) = t else {
+        return retried(starts, words, t);
+    };
+    if !storage::is_variable(rows, table, c, a) && !storage::is_variable(rows, table, c, b) {
+        return retried(starts, words, t);
     }
+    retry(rows, table, facts, c, starts, words, work, free, h, q, y, a, b, pol)
 }
 
 // The retry, a variable in the other polarity; y is the first member of the first try.
@@ -1115,10 +789,12 @@ fn retry(
     b: u32,
     pol: Polarity,
 ) -> Given {
+    let n = hold_two(work, h, a, b);
     let pa = turned(rows, table, c, a, pol);
     let pb = turned(rows, table, c, b, pol);
-    let t = two(rows, table, facts, c, starts, words, work, free, h, q, a, pa, b, pb);
-    inter_second(facts, c, starts, words, work, h, t, y, pol)
+    let f = each(rows, table, facts, c, starts, words, work, free, h, q, n, pa, pb);
+    let t = concrete::inter_tried(facts, c, starts, words, work, h, f, Try::Again(y), pol);
+    retried(starts, words, t)
 }
 
 // What a root is answered with: passes, operations of both, the sorted mark of either, whether the pass shown bailed, and the node.

@@ -1,5 +1,4 @@
 // EquivDsu: the representatives of ids that pairs join. The lent slice holds each id's parent, at the end its representative.
-use cells::add;
 use cells::at;
 use cells::get;
 use cells::place;

@@ -1,4 +1,4 @@
 // The Canonicalizer: a table's entries, representatives and marks, the cycle of visit, rule and expansion, the two passes.
-pub mod storage;
-pub mod equiv;
 pub mod collect;
+pub mod equiv;
+pub mod storage;

@@ -3,16 +3,7 @@ use cells::add;
 use cells::at;
 use cells::get;
 use cells::place;
-
-// What a pass is given besides lent slices: the entry count, the row of the first entry, the budget, the operations of the pass before
-// it, and the number of the name `__functor`.
-pub struct Canon {
-    pub count: u32,
-    pub base: u32,
-    pub budget: u32,
-    pub spent: u32,
-    pub functor: u32,
-}
+use places::given::Canon;
 
 // TypeEntry and Ty. A variable's and a set's lists stand in the row, from the place given on.
 pub enum Entry {

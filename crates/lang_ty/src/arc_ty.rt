@@ -1,43 +1,67 @@
 // OutputTy's children and order.
+use crate::arena::OutputTy;
 use crate::arena::kind;
 use crate::arena::word;
-use crate::arena::OutputTy;
 use crate::attrset;
-use cells::at;
+use crate::disjoint::set_place;
+use cells::add;
 use cells::get;
 use cells::place;
-use crate::disjoint::set_place;
+ghost use Rattle.lang_ty.specs.Orders.{FirstChild, Children, ChildAt, Numbers, Least, SetItems, SetRest, SetItem, PlainItems, PlainItem, ListItem, Items, ItemAt, Plainly, ComparedAt, Compared};
 
 // How many children node x has.
-pub fn children(starts: &[u32], words: &[u32], x: u32) -> u32 {
+pub fn children(starts: &[u32], words: &[u32], x: u32) -> u32
+    ensures { λ r. ⌜ Children (now (starts .entry)) (now (words .entry)) x r ⌝ }
+{
     let k = kind(starts, words, x);
+    if k == OutputTy::ATTR_SET {
+        let a = set_place(starts, x);
+        return add(attrset::fields(words, a), attrset::dyns(words, a));
+    }
     if k == OutputTy::LAMBDA {
         return 2;
     }
-    if k == OutputTy::LIST || k == OutputTy::NAMED || k == OutputTy::NEG {
+    if k == OutputTy::LIST {
         return 1;
     }
-    if k == OutputTy::ATTR_SET {
-        let a = set_place(starts, x);
-        return cells::add(attrset::fields(words, a), attrset::dyns(words, a));
+    if k == OutputTy::NAMED {
+        return 1;
+    }
+    if k == OutputTy::NEG {
+        return 1;
     }
     crate::arena::count(starts, words, x)
 }
 
+// The word of a row from which on the children of a node of kind k stand; not of a set.
+fn first_child(k: u32) -> u32
+    ensures { λ r. ⌜ FirstChild k r ⌝ }
+{
+    if k == OutputTy::LIST {
+        return 1;
+    }
+    if k == OutputTy::LAMBDA {
+        return 1;
+    }
+    if k == OutputTy::NEG {
+        return 1;
+    }
+    2
+}
+
 // Child i of node x, from left to right: fields, then dyn.
-pub fn child(starts: &[u32], words: &[u32], x: u32, i: u32) -> u32 {
+pub fn child(starts: &[u32], words: &[u32], x: u32, i: u32) -> u32
+    ensures { λ r. ⌜ ChildAt (now (starts .entry)) (now (words .entry)) x i r ⌝ }
+{
     let k = kind(starts, words, x);
-    if k == OutputTy::LIST || k == OutputTy::LAMBDA || k == OutputTy::NEG {
-        return word(starts, words, x, cells::add(i, 1));
+    if k != OutputTy::ATTR_SET {
+        return word(starts, words, x, add(i, first_child(k)));
     }
-    if k == OutputTy::ATTR_SET {
-        let a = set_place(starts, x);
-        if i < attrset::fields(words, a) {
-            return attrset::field_type(words, a, i);
-        }
-        return attrset::dyn_type(words, a);
+    let a = set_place(starts, x);
+    if i < attrset::fields(words, a) {
+        return attrset::field_type(words, a, i);
     }
-    word(starts, words, x, cells::add(i, 2))
+    attrset::dyn_type(words, a)
 }
 
 pub enum Order {
@@ -53,21 +77,39 @@ enum Item {
     Child(u32),
 }
 
-fn compare_numbers(a: u32, b: u32) -> Order {
+fn compare_numbers(a: u32, b: u32) -> Order
+    ensures { λ r. ⌜ Numbers a b r ⌝ }
+{
     if a < b {
         return Order::Less;
     }
-    if a == b { Order::Equal } else { Order::Greater }
+    if a == b {
+        return Order::Equal;
+    }
+    Order::Greater
+}
+
+fn least(a: u32, b: u32) -> u32
+    ensures { λ r. ⌜ Least a b r ⌝ }
+{
+    if a < b {
+        return a;
+    }
+    b
 }
 
 // How many items the set at a has: its fields and their end, dyn or none, open, the optional keys and their end.
-fn set_items(words: &[u32], a: u32) -> u32 {
+fn set_items(words: &[u32], a: u32) -> u32
+    ensures { λ r. ⌜ SetItems (now (words .entry)) a r ⌝ }
+{
     let n = attrset::fields(words, a);
-    cells::add(cells::add(cells::add(n, n), 4), attrset::optionals(words, a))
+    add(add(add(n, n), 4), attrset::optionals(words, a))
 }
 
 // Item i of the set at a, behind its fields and their end.
-fn set_rest(words: &[u32], a: u32, i: u32) -> Item {
+fn set_rest(words: &[u32], a: u32, i: u32) -> Item
+    ensures { λ r. ⌜ SetRest (now (words .entry)) a i r ⌝ }
+{
     if i == 0 {
         if attrset::dyns(words, a) == 0 {
             return Item::End;
@@ -77,66 +119,116 @@ fn set_rest(words: &[u32], a: u32, i: u32) -> Item {
     if i == 1 {
         return Item::Num(attrset::open(words, a));
     }
-    if i < cells::add(attrset::optionals(words, a), 2) {
+    if i < add(attrset::optionals(words, a), 2) {
         return Item::Num(get(words, place(attrset::open_place(words, a), i)));
     }
     Item::End
 }
 
 // Item i of the set at a.
-fn set_item(words: &[u32], a: u32, i: u32) -> Item {
+fn set_item(words: &[u32], a: u32, i: u32) -> Item
+    ensures { λ r. ⌜ SetItem (now (words .entry)) a i r ⌝ }
+{
     let n = attrset::fields(words, a);
-    let m = cells::add(n, n);
+    let m = add(n, n);
     if i == m {
         return Item::End;
     }
     if m < i {
         return set_rest(words, a, i - m - 1);
     }
-    let w = get(words, cells::place(a, cells::add(i, 1)));
-    if i % 2 == 0 { Item::Num(w) } else { Item::Child(w) }
-}
-
-// How many items node x has besides its kind.
-fn items(starts: &[u32], words: &[u32], x: u32) -> u32 {
-    let k = kind(starts, words, x);
-    if k == OutputTy::ATTR_SET {
-        return set_items(words, set_place(starts, x));
-    }
-    if k == OutputTy::UNION || k == OutputTy::INTERSECTION {
-        return cells::add(word(starts, words, x, 1), 1);
-    }
-    if k == OutputTy::LAMBDA || k == OutputTy::NAMED {
-        return 2;
-    }
-    if k < OutputTy::BOTTOM { 1 } else { 0 }
-}
-
-// Item i of node x.
-fn item_at(starts: &[u32], words: &[u32], x: u32, i: u32) -> Item {
-    let k = kind(starts, words, x);
-    if k == OutputTy::ATTR_SET {
-        return set_item(words, set_place(starts, x), i);
-    }
-    if k == OutputTy::UNION || k == OutputTy::INTERSECTION {
-        if i < word(starts, words, x, 1) {
-            return Item::Child(word(starts, words, x, cells::add(i, 2)));
-        }
-        return Item::End;
-    }
-    let w = word(starts, words, x, cells::add(i, 1));
-    if k == OutputTy::TY_VAR || k == OutputTy::PRIMITIVE || (k == OutputTy::NAMED && i == 0) {
+    let w = get(words, place(a, add(i, 1)));
+    if i % 2 == 0 {
         return Item::Num(w);
     }
     Item::Child(w)
 }
 
-// Two items that are no children; an end comes first.
-fn compare_plain(a: Item, b: Item) -> Order {
+// How many items a node of kind k has besides its kind; not of a set or a list of members.
+fn plain_items(k: u32) -> u32
+    ensures { λ r. ⌜ PlainItems k r ⌝ }
+{
+    if k == OutputTy::LAMBDA {
+        return 2;
+    }
+    if k == OutputTy::NAMED {
+        return 2;
+    }
+    if k < OutputTy::BOTTOM {
+        return 1;
+    }
+    0
+}
+
+// How many items node x has besides its kind.
+fn items(starts: &[u32], words: &[u32], x: u32) -> u32
+    ensures { λ r. ⌜ Items (now (starts .entry)) (now (words .entry)) x r ⌝ }
+{
+    let k = kind(starts, words, x);
+    if k == OutputTy::ATTR_SET {
+        return set_items(words, set_place(starts, x));
+    }
+    if k == OutputTy::UNION {
+        return add(word(starts, words, x, 1), 1);
+    }
+    if k == OutputTy::INTERSECTION {
+        return add(word(starts, words, x, 1), 1);
+    }
+    plain_items(k)
+}
+
+// Item i of a node of kind k, whose word it is; not of a set or a list of members.
+fn plain_item(k: u32, i: u32, w: u32) -> Item
+    ensures { λ r. ⌜ PlainItem k i w r ⌝ }
+{
+    if k < OutputTy::LIST {
+        return Item::Num(w);
+    }
+    if k != OutputTy::NAMED {
+        return Item::Child(w);
+    }
+    if i == 0 {
+        return Item::Num(w);
+    }
+    Item::Child(w)
+}
+
+// Item i of a union or an intersection.
+fn list_item(starts: &[u32], words: &[u32], x: u32, i: u32) -> Item
+    ensures { λ r. ⌜ ListItem (now (starts .entry)) (now (words .entry)) x i r ⌝ }
+{
+    if i < word(starts, words, x, 1) {
+        return Item::Child(word(starts, words, x, add(i, 2)));
+    }
+    Item::End
+}
+
+// Item i of node x.
+fn item_at(starts: &[u32], words: &[u32], x: u32, i: u32) -> Item
+    ensures { λ r. ⌜ ItemAt (now (starts .entry)) (now (words .entry)) x i r ⌝ }
+{
+    let k = kind(starts, words, x);
+    if k == OutputTy::ATTR_SET {
+        return set_item(words, set_place(starts, x), i);
+    }
+    if k == OutputTy::UNION {
+        return list_item(starts, words, x, i);
+    }
+    if k == OutputTy::INTERSECTION {
+        return list_item(starts, words, x, i);
+    }
+    plain_item(k, i, word(starts, words, x, add(i, 1)))
+}
+
+// Two items, the first no child; an end comes first, a number before a child.
+fn compare_plain(a: Item, b: Item) -> Order
+    ensures { λ r. ⌜ Plainly a b r ⌝ }
+{
     match a {
         Item::End => match b {
             Item::End => Order::Equal,
-            _ => Order::Less,
+            Item::Num(_) => Order::Less,
+            Item::Child(_) => Order::Less,
         },
         Item::Num(x) => match b {
             Item::End => Order::Greater,
@@ -148,25 +240,34 @@ fn compare_plain(a: Item, b: Item) -> Order {
 }
 
 // Item i of nodes a and b.
-fn compare_item(starts: &[u32], words: &[u32], a: u32, b: u32, i: u32) -> Order {
+fn compare_item(starts: &[u32], words: &[u32], a: u32, b: u32, i: u32) -> Order
+    ensures { λ r. ⌜ ComparedAt (now (starts .entry)) (now (words .entry)) a b i r ⌝ }
+{
     let s = item_at(starts, words, a, i);
     let t = item_at(starts, words, b, i);
-    if let Item::Child(x) = s {
-        if let Item::Child(y) = t {
-            if x == y {
-                return Order::Equal;
+    match s {
+        Item::End => compare_plain(s, t),
+        Item::Num(_) => compare_plain(s, t),
+        Item::Child(x) => match t {
+            Item::End => Order::Greater,
+            Item::Num(_) => Order::Greater,
+            Item::Child(y) => {
+                if x == y {
+                    return Order::Equal;
+                }
+                if a <= x {
+                    return Order::Equal;
+                }
+                compare(starts, words, x, y)
             }
-            if a <= x {
-                return Order::Equal;
-            }
-            return compare(starts, words, x, y);
-        }
+        },
     }
-    compare_plain(s, t)
 }
 
 // OutputTy::cmp in the order of the rules: by kind, then item by item, children by this same order; a child has a smaller number.
-pub fn compare(starts: &[u32], words: &[u32], a: u32, b: u32) -> Order {
+pub fn compare(starts: &[u32], words: &[u32], a: u32, b: u32) -> Order
+    ensures { λ r. ⌜ Compared (now (starts .entry)) (now (words .entry)) a b r ⌝ }
+{
     let j = kind(starts, words, a);
     let k = kind(starts, words, b);
     if j != k {
@@ -174,8 +275,9 @@ pub fn compare(starts: &[u32], words: &[u32], a: u32, b: u32) -> Order {
     }
     let n = items(starts, words, a);
     let m = items(starts, words, b);
+    let l = least(n, m);
     let mut i = 0;
-    while i < n && i < m {
+    while i < l {
         match compare_item(starts, words, a, b, i) {
             Order::Equal => {
                 i += 1;

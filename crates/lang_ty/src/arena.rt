@@ -6,6 +6,9 @@ use cells::get;
 use cells::place;
 use cells::put;
 use cells::set;
+ghost use Rattle.lang_ty.specs.Nodes.{Word, Kind, Is, Count, Member, Same, RowIs, Sought, Kept, Interned, Top, Written, Copied, Stored, Listed};
+ghost use mathlib.Core.List.{[], _∷_};
+ghost use Rattle.cells.specs.Part.{part};
 
 // The kinds, in OutputTy's order.
 pub struct OutputTy {}
@@ -51,52 +54,75 @@ pub enum Found {
 }
 
 // The word i of node x.
-pub fn word(starts: &[u32], words: &[u32], x: u32, i: u32) -> u32 {
+pub fn word(starts: &[u32], words: &[u32], x: u32, i: u32) -> u32
+    ensures { λ r. ⌜ Word (now (starts .entry)) (now (words .entry)) x i r ⌝ }
+{
     get(words, place(at(starts, x), i))
 }
 
-pub fn kind(starts: &[u32], words: &[u32], x: u32) -> u32 {
+pub fn kind(starts: &[u32], words: &[u32], x: u32) -> u32
+    ensures { λ r. ⌜ Kind (now (starts .entry)) (now (words .entry)) x r ⌝ }
+{
     word(starts, words, x, 0)
 }
 
-pub fn is(starts: &[u32], words: &[u32], k: u32, x: u32) -> bool {
+pub fn is(starts: &[u32], words: &[u32], k: u32, x: u32) -> bool
+    ensures { λ r. ⌜ Is (now (starts .entry)) (now (words .entry)) k x r ⌝ }
+{
     kind(starts, words, x) == k
 }
 
 // How many members a union or an intersection has; a node of another kind has none.
-pub fn count(starts: &[u32], words: &[u32], x: u32) -> u32 {
+pub fn count(starts: &[u32], words: &[u32], x: u32) -> u32
+    ensures { λ r. ⌜ Count (now (starts .entry)) (now (words .entry)) x r ⌝ }
+{
     let k = kind(starts, words, x);
-    if k == OutputTy::UNION || k == OutputTy::INTERSECTION {
-        word(starts, words, x, 1)
-    } else {
-        0
+    if k == OutputTy::UNION {
+        return word(starts, words, x, 1);
     }
+    if k == OutputTy::INTERSECTION {
+        return word(starts, words, x, 1);
+    }
+    0
 }
 
 // Member i of a union or an intersection.
-pub fn member(starts: &[u32], words: &[u32], x: u32, i: u32) -> u32 {
+pub fn member(starts: &[u32], words: &[u32], x: u32, i: u32) -> u32
+    ensures { λ r. ⌜ Member (now (starts .entry)) (now (words .entry)) x i r ⌝ }
+{
     word(starts, words, x, add(i, 2))
 }
 
+// Whether the n words from a on are the n words from b on.
+fn same(words: &[u32], a: u32, b: u32, n: u32) -> bool
+    ensures { λ r. ⌜ Same (now (words .entry)) a b n r ⌝ }
+{
+    let mut i = 0;
+    while i < n {
+        if get(words, place(a, i)) != get(words, place(b, i)) {
+            return false;
+        }
+        i += 1;
+    }
+    true
+}
+
 // Whether row i is the len words from top on.
-fn row_is(starts: &[u32], words: &[u32], i: u32, top: u32, len: u32) -> bool {
+fn row_is(starts: &[u32], words: &[u32], i: u32, top: u32, len: u32) -> bool
+    ensures { λ r. ⌜ RowIs (now (starts .entry)) (now (words .entry)) i top len r ⌝ }
+{
     let a = at(starts, i);
     let e = get(starts, place(i, 1));
     if e != add(a, len) {
         return false;
     }
-    let mut j = 0;
-    while j < len {
-        if get(words, place(a, j)) != get(words, place(top, j)) {
-            return false;
-        }
-        j += 1;
-    }
-    true
+    same(words, top, a, len)
 }
 
 // The first row that equals the len words from top on.
-fn find(starts: &[u32], words: &[u32], nodes: u32, top: u32, len: u32) -> Found {
+fn find(starts: &[u32], words: &[u32], nodes: u32, top: u32, len: u32) -> Found
+    ensures { λ r. ⌜ Sought (now (starts .entry)) (now (words .entry)) nodes top len r ⌝ }
+{
     let mut i = 0;
     while i < nodes {
         if row_is(starts, words, i, top, len) {
@@ -108,7 +134,9 @@ fn find(starts: &[u32], words: &[u32], nodes: u32, top: u32, len: u32) -> Found 
 }
 
 // The new row as the next node, with its cells.
-fn keep(starts: &mut [u32], q: Pass, end: u32, cells: u32) -> Given {
+fn keep(starts: &mut [u32], q: Pass, end: u32, cells: u32) -> Given
+    ensures { λ r. ⌜ Kept (now (starts .entry)) q end cells (now (starts .exit)) r ⌝ }
+{
     let n = q.nodes;
     if Pass::NODES <= n {
         return Given::Refused(8);
@@ -129,7 +157,9 @@ fn keep(starts: &mut [u32], q: Pass, end: u32, cells: u32) -> Given {
 }
 
 // TypeArena::intern: the node whose row is the len words behind the last row: the number of the one that is there, or the next.
-pub fn intern(starts: &mut [u32], words: &[u32], q: Pass, len: u32, cells: u32) -> Given {
+pub fn intern(starts: &mut [u32], words: &[u32], q: Pass, len: u32, cells: u32) -> Given
+    ensures { λ r. ⌜ Interned (now (starts .entry)) (now (words .entry)) q len cells (now (starts .exit)) r ⌝ }
+{
     let n = q.nodes;
     let top = at(starts, n);
     match find(starts, words, n, top, len) {
@@ -139,58 +169,84 @@ pub fn intern(starts: &mut [u32], words: &[u32], q: Pass, len: u32, cells: u32) 
 }
 
 // The first word that no row has.
-pub fn top(starts: &[u32], q: Pass) -> u32 {
+pub fn top(starts: &[u32], q: Pass) -> u32
+    ensures { λ r. ⌜ Top (now (starts .entry)) q r ⌝ }
+{
     let n = q.nodes;
     at(starts, n)
 }
 
+// Two numbers, written from t on.
+fn write_two(words: &mut [u32], t: u32, a: u32, b: u32)
+    ensures { λ _. ⌜ Written t (now (words .entry)) (now (words .exit)) (a ∷ b ∷ []) ⌝ }
+{
+    set(words, t, a);
+    put(words, place(t, 1), b);
+}
+
 // A node of its kind alone: Bottom or Top.
-pub fn store_leaf(starts: &mut [u32], words: &mut [u32], q: Pass, kind: u32) -> Given {
-    let t = top(starts, q);
-    set(words, t, kind);
+pub fn store_leaf(starts: &mut [u32], words: &mut [u32], q: Pass, kind: u32) -> Given
+    ensures { λ r. ⌜ Stored (kind ∷ []) 0 (now (starts .entry)) (now (words .entry)) q (now (starts .exit)) (now (words .exit)) r ⌝ }
+{
+    set(words, top(starts, q), kind);
     intern(starts, words, q, 1, 0)
 }
 
 // A node of a kind and one number: a variable, a primitive, a list, a negation.
-pub fn store_one(starts: &mut [u32], words: &mut [u32], q: Pass, kind: u32, a: u32) -> Given {
-    let t = top(starts, q);
-    set(words, t, kind);
-    put(words, place(t, 1), a);
+pub fn store_one(starts: &mut [u32], words: &mut [u32], q: Pass, kind: u32, a: u32) -> Given
+    ensures { λ r. ⌜ Stored (kind ∷ a ∷ []) 0 (now (starts .entry)) (now (words .entry)) q (now (starts .exit)) (now (words .exit)) r ⌝ }
+{
+    write_two(words, top(starts, q), kind, a);
     intern(starts, words, q, 2, 0)
 }
 
 // A node of a kind and two numbers: a function, a named type.
-pub fn store_two(starts: &mut [u32], words: &mut [u32], q: Pass, kind: u32, a: u32, b: u32) -> Given {
+pub fn store_two(starts: &mut [u32], words: &mut [u32], q: Pass, kind: u32, a: u32, b: u32) -> Given
+    ensures { λ r. ⌜ Stored (kind ∷ a ∷ b ∷ []) 0 (now (starts .entry)) (now (words .entry)) q (now (starts .exit)) (now (words .exit)) r ⌝ }
+{
     let t = top(starts, q);
-    set(words, t, kind);
-    put(words, place(t, 1), a);
+    write_two(words, t, kind, a);
     put(words, place(t, 2), b);
     intern(starts, words, q, 3, 0)
 }
 
 // A union or an intersection of two members.
-pub fn store_both(starts: &mut [u32], words: &mut [u32], q: Pass, kind: u32, a: u32, b: u32) -> Given {
+pub fn store_both(starts: &mut [u32], words: &mut [u32], q: Pass, kind: u32, a: u32, b: u32) -> Given
+    ensures { λ r. ⌜ Stored (kind ∷ 2 ∷ a ∷ b ∷ []) 2 (now (starts .entry)) (now (words .entry)) q (now (starts .exit)) (now (words .exit)) r ⌝ }
+{
     let t = top(starts, q);
-    set(words, t, kind);
-    put(words, place(t, 1), 2);
-    put(words, place(t, 2), a);
-    put(words, place(t, 3), b);
+    write_two(words, t, kind, 2);
+    write_two(words, add(t, 2), a, b);
     intern(starts, words, q, 4, 2)
 }
 
+// Number i from a on in another slice, written to place i from t on.
+fn copy_one(words: &mut [u32], t: u32, from: &[u32], a: u32, i: u32)
+    ensures { λ _. ⌜ Copied t (now (words .entry)) (now (from .entry)) a i (now (words .exit)) ⌝ }
+{
+    put(words, place(t, i), get(from, place(a, i)));
+}
+
+// The n numbers from a on in another slice, written from t on.
+fn copy(words: &mut [u32], t: u32, from: &[u32], a: u32, n: u32)
+    ensures { λ _. ⌜ Written t (now (words .entry)) (now (words .exit)) (part (now (from .entry)) a n) ⌝ }
+{
+    let mut i = 0;
+    while i < n {
+        copy_one(words, t, from, a, i);
+        i += 1;
+    }
+}
+
 // A union or an intersection of the n numbers from a on in another slice; 7 where they are too many.
-pub fn store_list(starts: &mut [u32], words: &mut [u32], q: Pass, kind: u32, from: &[u32], a: u32, n: u32) -> Given {
+pub fn store_list(starts: &mut [u32], words: &mut [u32], q: Pass, kind: u32, from: &[u32], a: u32, n: u32) -> Given
+    ensures { λ r. ⌜ Listed kind (now (from .entry)) a n (now (starts .entry)) (now (words .entry)) q (now (starts .exit)) (now (words .exit)) r ⌝ }
+{
     if Pass::MEMBERS < n {
         return Given::Refused(7);
     }
     let t = top(starts, q);
-    set(words, t, kind);
-    put(words, place(t, 1), n);
-    let m = add(t, 2);
-    let mut i = 0;
-    while i < n {
-        put(words, place(m, i), get(from, place(a, i)));
-        i += 1;
-    }
+    write_two(words, t, kind, n);
+    copy(words, add(t, 2), from, a, n);
     intern(starts, words, q, n + 2, n)
 }

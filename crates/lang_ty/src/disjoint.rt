@@ -5,23 +5,36 @@ use crate::attrset;
 use crate::primitive;
 use cells::add;
 use cells::at;
-use cells::get;
+ghost use Rattle.lang_ty.specs.Shapes.{SetPlace, Alone, Lacks, Apart, Constructor, SameDisjoint, Disjoint};
 
 // The set's place in the row of node x.
-pub fn set_place(starts: &[u32], x: u32) -> u32 {
+pub fn set_place(starts: &[u32], x: u32) -> u32
+    ensures { λ r. ⌜ SetPlace (now (starts .entry)) x r ⌝ }
+{
     add(at(starts, x), 1)
 }
 
+// Whether the set at b requires the field k, and the one at a lacks it.
+fn alone(words: &[u32], a: u32, b: u32, k: u32) -> bool
+    ensures { λ r. ⌜ Alone (now (words .entry)) a b k r ⌝ }
+{
+    if attrset::has_field(words, a, k) {
+        return false;
+    }
+    !attrset::has_optional(words, b, k)
+}
+
 // The set at a is closed, and the one at b requires a field that it lacks.
-fn lacks(words: &[u32], a: u32, b: u32) -> bool {
+fn lacks(words: &[u32], a: u32, b: u32) -> bool
+    ensures { λ r. ⌜ Lacks (now (words .entry)) a b r ⌝ }
+{
     if attrset::open(words, a) != 0 {
         return false;
     }
     let n = attrset::fields(words, b);
     let mut i = 0;
     while i < n {
-        let k = attrset::key(words, b, i);
-        if !attrset::has_field(words, a, k) && !attrset::has_optional(words, b, k) {
+        if alone(words, a, b, attrset::key(words, b, i)) {
             return true;
         }
         i += 1;
@@ -29,43 +42,72 @@ fn lacks(words: &[u32], a: u32, b: u32) -> bool {
     false
 }
 
-fn primitives_disjoint(a: u32, b: u32) -> bool {
-    a != b && !primitive::is_subtype_of(a, b) && !primitive::is_subtype_of(b, a)
+fn primitives_disjoint(a: u32, b: u32) -> bool
+    ensures { λ r. ⌜ Apart a b r ⌝ }
+{
+    if a == b {
+        return false;
+    }
+    if primitive::is_subtype_of(a, b) {
+        return false;
+    }
+    !primitive::is_subtype_of(b, a)
 }
 
 // A kind whose constructor is known: a primitive, a list, a lambda or a set.
-pub fn is_constructor(k: u32) -> bool {
-    OutputTy::PRIMITIVE <= k && k <= OutputTy::ATTR_SET
+pub fn is_constructor(k: u32) -> bool
+    ensures { λ r. ⌜ Constructor k r ⌝ }
+{
+    if k < OutputTy::PRIMITIVE {
+        return false;
+    }
+    k <= OutputTy::ATTR_SET
 }
 
 // Two nodes of one constructor.
-fn same_disjoint(starts: &[u32], words: &[u32], k: u32, a: u32, b: u32) -> bool {
+fn same_disjoint(starts: &[u32], words: &[u32], k: u32, a: u32, b: u32) -> bool
+    ensures { λ r. ⌜ SameDisjoint (now (starts .entry)) (now (words .entry)) k a b r ⌝ }
+{
     if k == OutputTy::PRIMITIVE {
         return primitives_disjoint(arena::word(starts, words, a, 1), arena::word(starts, words, b, 1));
     }
-    if k == OutputTy::ATTR_SET {
-        let s = set_place(starts, a);
-        let t = set_place(starts, b);
-        return lacks(words, s, t) || lacks(words, t, s);
+    if k != OutputTy::ATTR_SET {
+        return false;
     }
-    false
+    let s = set_place(starts, a);
+    let t = set_place(starts, b);
+    if lacks(words, s, t) {
+        return true;
+    }
+    lacks(words, t, s)
 }
 
 // are_output_types_disjoint with are_shapes_disjoint; functor is the number of the name `__functor`.
-pub fn are_shapes_disjoint(starts: &[u32], words: &[u32], functor: u32, a: u32, b: u32) -> bool {
+pub fn are_shapes_disjoint(starts: &[u32], words: &[u32], functor: u32, a: u32, b: u32) -> bool
+    ensures { λ r. ⌜ Disjoint (now (starts .entry)) (now (words .entry)) functor a b r ⌝ }
+{
     let j = arena::kind(starts, words, a);
     let k = arena::kind(starts, words, b);
-    if !is_constructor(j) || !is_constructor(k) {
+    if !is_constructor(j) {
+        return false;
+    }
+    if !is_constructor(k) {
         return false;
     }
     if j == k {
         return same_disjoint(starts, words, j, a, b);
     }
-    if j == OutputTy::ATTR_SET && k == OutputTy::LAMBDA {
-        return !attrset::has_field(words, set_place(starts, a), functor);
+    if j == OutputTy::ATTR_SET {
+        if k == OutputTy::LAMBDA {
+            return !attrset::has_field(words, set_place(starts, a), functor);
+        }
+        return true;
     }
-    if j == OutputTy::LAMBDA && k == OutputTy::ATTR_SET {
-        return !attrset::has_field(words, set_place(starts, b), functor);
+    if j != OutputTy::LAMBDA {
+        return true;
     }
-    true
+    if k != OutputTy::ATTR_SET {
+        return true;
+    }
+    !attrset::has_field(words, set_place(starts, b), functor)
 }

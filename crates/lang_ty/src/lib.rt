@@ -1,6 +1,6 @@
 // Types as nodes: rows of numbers in lent slices, stored once each; primitives, sets, disjointness and the order of nodes.
-pub mod primitive;
+pub mod arc_ty;
 pub mod arena;
 pub mod attrset;
 pub mod disjoint;
-pub mod arc_ty;
+pub mod primitive;

@@ -50,6 +50,17 @@ pub fn refused(k: u32) -> Listed {
     }
 }
 
+// The n cells held from h on; a count above 128 where they do not fit.
+pub fn held(s: &[u32], h: u32, n: u32) -> Members {
+    let mut out = [0u32; 128];
+    let mut i = 0;
+    while i < n {
+        set(&mut out, i, get(s, place(h, i)));
+        i += 1;
+    }
+    Members { count: n, at: out }
+}
+
 // Whether x is among the first n cells of s.
 pub fn contains(s: &[u32], n: u32, x: u32) -> bool {
     let mut i = 0;

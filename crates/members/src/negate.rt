@@ -1,44 +1,117 @@
 // Negation.
 use cells::add;
+use cells::at;
 use cells::place;
 use cells::put;
+use cells::set;
 use lang_ty::arena;
 use lang_ty::arena::Given;
 use lang_ty::arena::OutputTy;
 use lang_ty::arena::Pass;
 
-// The negation of each member of x, as a node of the other composite kind; they are held from h on.
-fn negate_members(starts: &mut [u32], words: &mut [u32], held: &mut [u32], h: u32, p: Pass, x: u32, kind: u32) -> Given {
-    let n = arena::count(starts, words, x);
-    let mut q = p;
-    let mut i = 0;
-    while i < n {
-        let m = arena::member(starts, words, x, i);
-        if x <= m {
-            return Given::Node(x, q);
-        }
-        let got = negate_output_ty(starts, words, held, add(h, n), q, m);
-        let Given::Node(y, r) = got else {
-            return got;
-        };
-        put(held, place(h, i), y);
-        q = r;
-        i += 1;
-    }
-    arena::store_list(starts, words, q, kind, held, h, n)
+// The cells of the working slice in which a negation counts nodes and their cells: it can be thousands of levels deep, and a level keeps
+// as little as it can.
+pub struct Counters {}
+
+impl Counters {
+    pub const NODES: u32 = 8192;
+    pub const CELLS: u32 = 8193;
 }
 
-// negate_output_ty: a Neg comes off, a union or an intersection turns over, anything else is wrapped. Members have smaller numbers.
+enum Negated {
+    Node(u32),
+    Refused(u32),
+}
+
+fn counted(held: &[u32]) -> Pass {
+    Pass {
+        nodes: at(held, Counters::NODES),
+        cells: at(held, Counters::CELLS),
+        ops: 0,
+        sorted: false,
+        bailed: false,
+    }
+}
+
+fn count(held: &mut [u32], q: Pass) {
+    set(held, Counters::NODES, q.nodes);
+    set(held, Counters::CELLS, q.cells);
+}
+
+// The node that was stored, once it is counted.
+fn stored(held: &mut [u32], g: Given) -> Negated {
+    match g {
+        Given::Node(x, q) => {
+            count(held, q);
+            Negated::Node(x)
+        }
+        Given::Refused(k) => Negated::Refused(k),
+    }
+}
+
+// The kind of node that the negations of the members of one of that kind make; any other kind turns into a Neg.
+fn turned(kind: u32) -> u32 {
+    if kind == OutputTy::UNION {
+        return OutputTy::INTERSECTION;
+    }
+    if kind == OutputTy::INTERSECTION { OutputTy::UNION } else { OutputTy::NEG }
+}
+
+// The Neg of node x, or the node of the n negations held from h on.
+fn store_negation(starts: &mut [u32], words: &mut [u32], held: &mut [u32], h: u32, x: u32, n: u32) -> Negated {
+    let kind = turned(arena::kind(starts, words, x));
+    let q = counted(held);
+    if kind == OutputTy::NEG {
+        return stored(held, arena::store_one(starts, words, q, OutputTy::NEG, x));
+    }
+    let g = arena::store_list(starts, words, q, kind, held, h, n);
+    stored(held, g)
+}
+
+// The negation of node x: a Neg comes off, a union or an intersection turns over, anything else is wrapped. The negations of its members,
+// which have smaller numbers, are held from h on.
+fn negate(starts: &mut [u32], words: &mut [u32], held: &mut [u32], h: u32, x: u32) -> Negated {
+    if arena::is(starts, words, OutputTy::NEG, x) {
+        return Negated::Node(arena::word(starts, words, x, 1));
+    }
+    if arena::count(starts, words, x) == 0 {
+        return store_negation(starts, words, held, h, x, 0);
+    }
+    let mut i = 0;
+    while i < arena::count(starts, words, x) {
+        let m = arena::member(starts, words, x, i);
+        if x <= m {
+            return Negated::Node(x);
+        }
+        let deep = add(h, arena::count(starts, words, x));
+        match negate(starts, words, held, deep, m) {
+            Negated::Node(y) => {
+                put(held, place(h, i), y);
+                i += 1;
+            }
+            Negated::Refused(k) => {
+                return Negated::Refused(k);
+            }
+        }
+    }
+    let n = arena::count(starts, words, x);
+    store_negation(starts, words, held, h, x, n)
+}
+
+// negate_output_ty
 pub fn negate_output_ty(starts: &mut [u32], words: &mut [u32], held: &mut [u32], h: u32, q: Pass, x: u32) -> Given {
-    let k = arena::kind(starts, words, x);
-    if k == OutputTy::NEG {
-        return Given::Node(arena::word(starts, words, x, 1), q);
+    count(held, q);
+    match negate(starts, words, held, h, x) {
+        Negated::Node(y) => {
+            let r = Pass {
+                nodes: at(held, Counters::NODES),
+                cells: at(held, Counters::CELLS),
+                ops: q.ops,
+                sorted: q.sorted,
+                bailed: q.bailed,
+            };
+            Given::Node(y, r)
+        }
+        Negated::Refused(k) => Given::Refused(k),
     }
-    if k == OutputTy::UNION {
-        return negate_members(starts, words, held, h, q, x, OutputTy::INTERSECTION);
-    }
-    if k == OutputTy::INTERSECTION {
-        return negate_members(starts, words, held, h, q, x, OutputTy::UNION);
-    }
-    arena::store_one(starts, words, q, OutputTy::NEG, x)
 }

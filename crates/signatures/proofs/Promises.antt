@@ -3,18 +3,19 @@ use mathlib.Core.Path.{_≡_, refl, sym, ap, subst, _∙_}
 use mathlib.Core.Bool.{Bool, true, false}
 use Prim.Native.Nat.{ℕ, _≤_, _<_}
 use mathlib.Core.List.{List, [], _∷_, _++_}
+use lib.ListN.{length, replicate}
 use lib.Dec.{T, eqb, ltb}
 use native.Mathlib.Omega.{arith}
 use borrow.Author.Tests.{ltb-false, lt-ltb, le-ltb}
 use Rattle.cells.specs.Part.{if}
 use Rattle.rules.specs.Plain.{any, contains}
-use Rattle.rules.specs.Table.{Table, Result, tableOf}
+use Rattle.rules.specs.Table.{Table, Result}
 use Rattle.rules.specs.Numbers.{tableNumbers, RefusedBy}
 use Rattle.rules.proofs.Told.{told}
 use Rattle.table.specs.Rows.{outcome, Read}
 use Rattle.table.specs.declared.Answer.{Answer}
 use Rattle.table.specs.declared.Answer.the-variants.{Refused as TableRefused}
-use Rattle.signatures.specs.Calls.{isShort, Short, Told, Answered}
+use Rattle.signatures.specs.Calls.{isShort, Short, recheckShort, RecheckShort, Told, Answered, Zero}
 use Rattle.signatures.specs.declared.calls.Outcome.{Outcome}
 use Rattle.signatures.specs.declared.calls.Outcome.the-variants.{Refused}
 
@@ -62,6 +63,41 @@ not-short {d} {r} {t} h e =
     let b = passed-on (ltb r 5698) _ (a .1) in
     (ltb-false r 5698 (b .0), ltb-false t 65536 (passed-on (ltb t 65536) _ (b .1) .0))
 
+-- each way out of recheck's `is_short`, o and p old rows and old table, z spans
+module _ (d o p r t f s w k z : ℕ) {b : Bool} (h : Short d r t f s w k b) where
+  pub recheck-short-1 : b ≡ true → RecheckShort d o p r t f s w k z true
+  unfolding recheckShort
+  recheck-short-1 e = record { is = simp (sym (h .is) ∙ e) }
+
+  module _ (e : b ≡ false) where
+    lent : isShort d r t f s w k ≡ false
+    lent = sym (h .is) ∙ e
+
+    pub recheck-short-2 : o < 5698 → RecheckShort d o p r t f s w k z true
+    unfolding recheckShort
+    recheck-short-2 a = record { is = simp (lent, lt-ltb o 5698 a) }
+
+    pub recheck-short-3 : 5698 ≤ o → p < 65536 → RecheckShort d o p r t f s w k z true
+    unfolding recheckShort
+    recheck-short-3 a c = record { is = simp (lent, le-ltb o 5698 a, lt-ltb p 65536 c) }
+
+    pub recheck-short-4 : 5698 ≤ o → 65536 ≤ p → w < 65536 → RecheckShort d o p r t f s w k z true
+    unfolding recheckShort
+    recheck-short-4 a c g = record { is = simp (lent, le-ltb o 5698 a, le-ltb p 65536 c, lt-ltb w 65536 g) }
+
+    pub recheck-short-5 : 5698 ≤ o → 65536 ≤ p → 65536 ≤ w → RecheckShort d o p r t f s w k z (ltb z 129)
+    unfolding recheckShort
+    recheck-short-5 a c g = record { is = simp (lent, le-ltb o 5698 a, le-ltb p 65536 c, le-ltb w 65536 g) }
+
+-- so are those of both tables
+pub none-short : {d o p r t f s w k z : ℕ} {b : Bool} → RecheckShort d o p r t f s w k z b → b ≡ false → (5698 ≤ o) × (65536 ≤ p) × (5698 ≤ r) × (65536 ≤ t)
+unfolding recheckShort
+none-short {d} {o} {p} {r} {t} {f} {s} {w} {k} h e =
+    let a = passed-on (isShort d r t f s w k) _ (sym (h .is) ∙ e) in
+    let b = passed-on (ltb o 5698) _ (a .1) in
+    let new = not-short (record { is = sym (a .0) }) refl in
+    (ltb-false o 5698 (b .0), ltb-false p 65536 (passed-on (ltb p 65536) _ (b .1) .0), new .0, new .1)
+
 -- what is among the first is among all
 any-step : (b : Bool) (x y : Bool) → (T x → T y) → T (if b (λ _. true) (λ _. x)) → T (if b (λ _. true) (λ _. y))
 any-step true x y f h = tt
@@ -76,13 +112,18 @@ read-told : {text s w : List ℕ} {a : Answer} {k l : ℕ} → Read text s w a �
 read-told {text} {s} {w} {a} {k} {l} r e =
     subst (λ (x : Result Table). RefusedBy tableNumbers x) (sym (r .is) ∙ ap (λ (b : Answer). outcome b s w) e) (told text)
 
-module _ {d r t f s w k : ℕ} {b : Bool} (out : List ℕ) (h : Short d r t f s w k b) where
-  pub short-out : b ≡ true → Answered (isShort d r t f s w k) out out (Refused 20 0)
-  short-out e = record { kept = refl; told = subst (λ (x : Bool). Told x (Refused 20 0)) (sym e ∙ h .is) refl }
+-- a scratch wiped behind what kept its length
+pub zeroed : {s u : List ℕ} {n : ℕ} → u ≡ replicate n 0 → n ≡ length s → Zero s u
+zeroed e l = record { is = e ∙ ap (λ (n : ℕ). replicate n 0) l }
 
-  pub refused-out : b ≡ false → {text s′ w′ : List ℕ} {a : Answer} {n l : ℕ} → Read text s′ w′ a → a ≡ TableRefused n l → Answered (isShort d r t f s w k) out out (Refused n l)
+-- each way out of a call that gives a table's numbers and some more; b is what the test for a short scratch said
+module _ {short b : Bool} (more out : List ℕ) (h : b ≡ short) where
+  pub short-out : b ≡ true → Answered (tableNumbers ++ more) short out out (Refused 20 0)
+  short-out e = record { kept = refl; told = subst (λ (x : Bool). Told (tableNumbers ++ more) x (Refused 20 0)) (sym e ∙ h) refl }
+
+  pub refused-out : b ≡ false → {text s w : List ℕ} {a : Answer} {n l : ℕ} → Read text s w a → a ≡ TableRefused n l → Answered (tableNumbers ++ more) short out out (Refused n l)
   refused-out e {n = n} {l = l} q g =
-      record { kept = refl; told = subst (λ (x : Bool). Told x (Refused n l)) (sym e ∙ h .is) (any-more (eqb n) tableNumbers (12 ∷ []) (read-told q g)) }
+      record { kept = refl; told = subst (λ (x : Bool). Told (tableNumbers ++ more) x (Refused n l)) (sym e ∙ h) (any-more (eqb n) tableNumbers more (read-told q g)) }
 
-  pub listed-out : b ≡ false → {out′ : List ℕ} {o : Outcome} → Answered false out out′ o → Answered (isShort d r t f s w k) out out′ o
-  listed-out e {o = o} a = record { kept = a .kept; told = subst (λ (x : Bool). Told x o) (sym e ∙ h .is) (a .told) }
+  pub listed-out : b ≡ false → {out′ : List ℕ} {o : Outcome} → Answered (tableNumbers ++ more) false out out′ o → Answered (tableNumbers ++ more) short out out′ o
+  listed-out e {o = o} a = record { kept = a .kept; told = subst (λ (x : Bool). Told (tableNumbers ++ more) x o) (sym e ∙ h) (a .told) }

@@ -34,15 +34,19 @@ Kept out out′ (Refused k l) = out′ ≡ out
 abbrev pub canonNumbers : List ℕ
 canonNumbers = tableNumbers ++ (12 ∷ [])
 
--- 20 exactly where a scratch is short, and "20 before all"; otherwise one of the others
-abbrev pub Told : Bool → Outcome → Type 0
-Told true r = r ≡ Refused 20 0
-Told false (Written n) = Unit {0}
-Told false (Refused k l) = T (contains canonNumbers k)
+-- those that recheck gives, but for 20
+abbrev pub recheckNumbers : List ℕ
+recheckNumbers = tableNumbers ++ (10 ∷ 11 ∷ 12 ∷ [])
 
-pub record Answered (short : Bool) (out out′ : List ℕ) (r : Outcome) : Type 0 where
+-- 20 exactly where a scratch is short, and "20 before all"; otherwise one of the numbers
+abbrev pub Told : List ℕ → Bool → Outcome → Type 0
+Told numbers true r = r ≡ Refused 20 0
+Told numbers false (Written n) = Unit {0}
+Told numbers false (Refused k l) = T (contains numbers k)
+
+pub record Answered (numbers : List ℕ) (short : Bool) (out out′ : List ℕ) (r : Outcome) : Type 0 where
   pub kept : Kept out out′ r
-  pub told : Told short r
+  pub told : Told numbers short r
 
 -- "scratch is zero at every return"
 pub record Zero (s s′ : List ℕ) : Type 0 where
@@ -50,7 +54,7 @@ pub record Zero (s s′ : List ℕ) : Type 0 where
 
 -- what canon and canon_root promise: the outcome, the output, and every lent cell
 pub record Called (out draft rows table facts starts words work out′ draft′ rows′ table′ facts′ starts′ words′ work′ : List ℕ) (r : Outcome) : Type 0 where
-  pub answered : Answered (isShort (length draft) (length rows) (length table) (length facts) (length starts) (length words) (length work)) out out′ r
+  pub answered : Answered canonNumbers (isShort (length draft) (length rows) (length table) (length facts) (length starts) (length words) (length work)) out out′ r
   pub draft-zero : Zero draft draft′
   pub rows-zero : Zero rows rows′
   pub table-zero : Zero table table′
@@ -58,6 +62,32 @@ pub record Called (out draft rows table facts starts words work out′ draft′ 
   pub starts-zero : Zero starts starts′
   pub words-zero : Zero words words′
   pub work-zero : Zero work work′
+
+-- 20 for recheck: what canon is lent, and old rows, old words of a table, words of a listing, and spans
+unfoldable pub recheckShort : ℕ → ℕ → ℕ → ℕ → ℕ → ℕ → ℕ → ℕ → ℕ → ℕ → Bool
+recheckShort draft oldRows oldTable rows table facts starts words work spans =
+    if (isShort draft rows table facts starts words work) (λ _. true)
+    (λ _. if (ltb oldRows 5698) (λ _. true)
+    (λ _. if (ltb oldTable 65536) (λ _. true)
+    (λ _. if (ltb words 65536) (λ _. true)
+    (λ _. ltb spans 129))))
+
+pub record RecheckShort (draft oldRows oldTable rows table facts starts words work spans : ℕ) (b : Bool) : Type 0 where
+  pub is : b ≡ recheckShort draft oldRows oldTable rows table facts starts words work spans
+
+-- what recheck promises: the outcome, the output, and every lent cell
+pub record Rechecked (out draft oldRows oldTable rows table facts starts words work spans out′ draft′ oldRows′ oldTable′ rows′ table′ facts′ starts′ words′ work′ spans′ : List ℕ) (r : Outcome) : Type 0 where
+  pub answered : Answered recheckNumbers (recheckShort (length draft) (length oldRows) (length oldTable) (length rows) (length table) (length facts) (length starts) (length words) (length work) (length spans)) out out′ r
+  pub draft-zero : Zero draft draft′
+  pub old-rows-zero : Zero oldRows oldRows′
+  pub old-table-zero : Zero oldTable oldTable′
+  pub rows-zero : Zero rows rows′
+  pub table-zero : Zero table table′
+  pub facts-zero : Zero facts facts′
+  pub starts-zero : Zero starts starts′
+  pub words-zero : Zero words words′
+  pub work-zero : Zero work work′
+  pub spans-zero : Zero spans spans′
 
 -- what is copied, is there, and there is room for it
 pub record Fits (draft out : List ℕ) (n : ℕ) : Type 0 where

@@ -1,12 +1,12 @@
 // canon and canon_root.
 ghost use mathlib.Core.Bool.{false};
 ghost use lib.ListN.{length};
-ghost use Rattle.signatures.specs.Calls.{isShort, Short, Answered, Called, Fits};
+ghost use Rattle.signatures.specs.Calls.{isShort, Short, canonNumbers, Answered, Called, Fits};
+use crate::roots;
+use crate::roots::Given;
 use cells::small;
 use cells::wipe;
 use cells::wipe_bytes;
-use crate::roots;
-use crate::roots::Given;
 use lang_check::collect::Work;
 use table::Answer;
 use table::Table;
@@ -23,7 +23,7 @@ pub enum Asked {
     Root(u32, u32),
 }
 
-// The lengths of what is lent, one for each slice.
+// The lengths of what is lent, one for each slice. OLD_WORDS are the words of recheck, which reads a listing into them first.
 pub struct Lent {}
 
 impl Lent {
@@ -34,10 +34,12 @@ impl Lent {
     pub const STARTS: usize = 4097;
     pub const WORDS: usize = 49152;
     pub const WORK: usize = 49152;
+    pub const OLD_WORDS: usize = 65536;
+    pub const SPANS: usize = 129;
 }
 
 // Whether a lent length is shorter than the one stated for it.
-fn is_short(draft: usize, rows: usize, table: usize, facts: usize, starts: usize, words: usize, work: usize) -> bool
+pub fn is_short(draft: usize, rows: usize, table: usize, facts: usize, starts: usize, words: usize, work: usize) -> bool
     ensures { λ r. ⌜ Short draft rows table facts starts words work r ⌝ }
 {
     if draft < Lent::DRAFT {
@@ -62,7 +64,7 @@ fn is_short(draft: usize, rows: usize, table: usize, facts: usize, starts: usize
 }
 
 // The first n bytes of the draft copied to the output.
-fn copy(draft: &[u8], out: &mut [u8], n: usize)
+pub fn copy(draft: &[u8], out: &mut [u8], n: usize)
     requires { ⌜ Fits (now draft) (now out) n ⌝ }
 {
     let mut i: usize = 0;
@@ -108,7 +110,7 @@ fn deliver(
     size: u32,
     asked: Asked,
 ) -> Outcome
-    ensures { λ r. ⌜ Answered false (now (out .entry)) (now (out .exit)) r ⌝ }
+    ensures { λ r. ⌜ Answered canonNumbers false (now (out .entry)) (now (out .exit)) r ⌝ }
 {
     let len = size as usize;
     if out.len() < len {
@@ -135,7 +137,7 @@ fn list(
     t: Table,
     asked: Asked,
 ) -> Outcome
-    ensures { λ r. ⌜ Answered false (now (out .entry)) (now (out .exit)) r ⌝ }
+    ensures { λ r. ⌜ Answered canonNumbers false (now (out .entry)) (now (out .exit)) r ⌝ }
 {
     let c = roots::prepare(rows, table, facts, t);
     let size = write_asked(rows, table, facts, c, starts, words, work, draft, asked);
@@ -163,7 +165,7 @@ fn list_asked(
     t: Table,
     asked: Asked,
 ) -> Outcome
-    ensures { λ r. ⌜ Answered false (now (out .entry)) (now (out .exit)) r ⌝ }
+    ensures { λ r. ⌜ Answered canonNumbers false (now (out .entry)) (now (out .exit)) r ⌝ }
 {
     if is_no_entry(t, asked) {
         return Outcome::Refused(3, 0);
@@ -184,7 +186,7 @@ fn answer(
     words: &mut [u32],
     work: &mut [u32],
 ) -> Outcome
-    ensures { λ r. ⌜ Answered (isShort (length (now (draft .entry))) (length (now (rows .entry))) (length (now (table .entry))) (length (now (facts .entry))) (length (now (starts .entry))) (length (now (words .entry))) (length (now (work .entry)))) (now (out .entry)) (now (out .exit)) r ⌝ }
+    ensures { λ r. ⌜ Answered canonNumbers (isShort (length (now (draft .entry))) (length (now (rows .entry))) (length (now (table .entry))) (length (now (facts .entry))) (length (now (starts .entry))) (length (now (words .entry))) (length (now (work .entry)))) (now (out .entry)) (now (out .exit)) r ⌝ }
 {
     if is_short(draft.len(), rows.len(), table.len(), facts.len(), starts.len(), words.len(), work.len()) {
         return Outcome::Refused(20, 0);
@@ -260,7 +262,7 @@ pub fn canon_root(
 }
 
 // An outcome as one number: a refusal's number and line, or 0 and the length written.
-fn code(r: Outcome) -> u64 {
+pub fn code(r: Outcome) -> u64 {
     match r {
         Outcome::Written(n) => n as u64,
         Outcome::Refused(k, l) => k as u64 * 4294967296 + l as u64,

@@ -6,12 +6,12 @@ use cells::place;
 use cells::put;
 use cells::small;
 use lang_check::collect;
-use lang_check::collect::Facts;
 use lang_check::collect::RootAnswer;
 use lang_check::equiv;
-use lang_check::storage::Canon;
 use listing::lines;
 use listing::lines::Head;
+use places::given::Canon;
+use places::given::Facts;
 use rules::Polarity;
 use table::Table;
 
@@ -31,7 +31,7 @@ fn first_mark(t: Table) -> u32 {
     add(first_pair(t), small(t.pairs))
 }
 
-fn first_root(t: Table) -> u32 {
+pub fn first_root(t: Table) -> u32 {
     add(first_mark(t), small(t.marks))
 }
 
@@ -143,7 +143,7 @@ fn write_refused(out: &mut [u8], p: u32, id: u32, sign: u32, answer: RootAnswer)
 }
 
 // The lines of root i of the table, written from position p on; the position behind them.
-fn write_next(
+pub fn write_next(
     rows: &[u32],
     table: &[u32],
     facts: &mut [u32],

@@ -4,11 +4,6 @@ use mathlib.Core.Path.{_≡_}
 use lib.ListN.{length}
 use Rattle.lang_check.proofs.collect.copy_words.Statement.{statement}
 use Rattle.lang_check.proofs.collect.copy_words.Tie as tie
-use Rattle.lang_check.proofs.collect.copy_words.Reads as reads
-use Rattle.lang_check.proofs.collect.copy_words.Lts as lts
-use Rattle.cells.proofs.get.Reads as get-reads
-use Rattle.cells.proofs.place.Reads as place-reads
-use Rattle.cells.proofs.put.Reads as put-reads
 
 abbrev Inv-loop : tie.InvT-loop
 Inv-loop table a words₀ t n i₀ words i = (i ≤ n) × (length words ≡ length words₀)
@@ -16,59 +11,19 @@ Inv-loop table a words₀ t n i₀ words i = (i ≤ n) × (length words ≡ leng
 abbrev μ-loop : tie.MeasureT-loop
 μ-loop table a words₀ t n i₀ words i = n - i
 
--- src/collect.rt:652:5
-loop-holds : tie.Need-loop-holds Inv-loop μ-loop
-loop-holds c = search needs
-
--- src/collect.rt:653:20
-place-requires : tie.Need-place-requires Inv-loop μ-loop
-place-requires c κs = search needs
-
--- src/collect.rt:653:44
-place-requires-2 : tie.Need-place-requires-2 Inv-loop μ-loop
-place-requires-2 c κs = search needs
-
--- src/collect.rt:653:33
-get-requires : tie.Need-get-requires Inv-loop μ-loop
-get-requires c κs = search needs
-
--- src/collect.rt:653:9
-put-requires : tie.Need-put-requires Inv-loop μ-loop
-put-requires c κs = search needs
-
--- src/collect.rt:654:9
-add-i : tie.Need-add-i Inv-loop μ-loop
-add-i c = search needs
-
--- src/collect.rt:652:5
-loop-less : tie.Need-loop-less Inv-loop μ-loop
-loop-less c = search needs
-
--- src/collect.rt:652:5
-loop-again : tie.Need-loop-again Inv-loop μ-loop
-loop-again c = search needs
-
--- src/collect.rt:650:1
-same-length : tie.Need-same-length Inv-loop μ-loop
-same-length c = search needs
-
--- src/collect.rt:650:1
-returns : tie.Need-returns Inv-loop μ-loop
-returns c = search needs
-
 pub copy-words-spec : {M : Type 1} → statement M
 copy-words-spec =
     tie.close
     (tie.spec
     Inv-loop
     μ-loop
-    loop-holds
-    place-requires
-    place-requires-2
-    get-requires
-    put-requires
-    add-i
-    loop-less
-    loop-again
-    same-length
-    returns)
+    (λ c. search needs)
+    (λ c _. search needs)
+    (λ c _. search needs)
+    (λ c _. search needs)
+    (λ c _. search needs)
+    (λ c. search needs)
+    (λ c. search needs)
+    (λ c. search needs)
+    (λ c. search needs)
+    (λ c. search needs))

@@ -4,10 +4,6 @@ use mathlib.Core.Path.{_≡_}
 use lib.ListN.{length}
 use Rattle.lang_check.proofs.equiv.settle.Statement.{statement}
 use Rattle.lang_check.proofs.equiv.settle.Tie as tie
-use Rattle.lang_check.proofs.equiv.settle.Reads as reads
-use Rattle.lang_check.proofs.equiv.settle.Lts as lts
-use Rattle.cells.proofs.set.Reads as set-reads
-use Rattle.lang_check.proofs.equiv.find.Reads as find-reads
 
 abbrev Inv-loop : tie.InvT-loop
 Inv-loop parent₀ count i₀ parent i = (i ≤ count) × (length parent ≡ length parent₀)
@@ -15,49 +11,17 @@ Inv-loop parent₀ count i₀ parent i = (i ≤ count) × (length parent ≡ len
 abbrev μ-loop : tie.MeasureT-loop
 μ-loop parent₀ count i₀ parent i = count - i
 
--- src/equiv.rt:55:5
-loop-holds : tie.Need-loop-holds Inv-loop μ-loop
-loop-holds c = search needs
-
--- src/equiv.rt:56:13
-find-requires : tie.Need-find-requires Inv-loop μ-loop
-find-requires c κs = search needs
-
--- src/equiv.rt:57:9
-set-requires : tie.Need-set-requires Inv-loop μ-loop
-set-requires c κs = search needs
-
--- src/equiv.rt:58:9
-add-i : tie.Need-add-i Inv-loop μ-loop
-add-i c = search needs
-
--- src/equiv.rt:55:5
-loop-less : tie.Need-loop-less Inv-loop μ-loop
-loop-less c = search needs
-
--- src/equiv.rt:55:5
-loop-again : tie.Need-loop-again Inv-loop μ-loop
-loop-again c = search needs
-
--- src/equiv.rt:53:1
-same-length : tie.Need-same-length Inv-loop μ-loop
-same-length c = search needs
-
--- src/equiv.rt:53:1
-returns : tie.Need-returns Inv-loop μ-loop
-returns c = search needs
-
 pub settle-spec : {M : Type 1} → statement M
 settle-spec =
     tie.close
     (tie.spec
     Inv-loop
     μ-loop
-    loop-holds
-    find-requires
-    set-requires
-    add-i
-    loop-less
-    loop-again
-    same-length
-    returns)
+    (λ c. search needs)
+    (λ c _. search needs)
+    (λ c _. search needs)
+    (λ c. search needs)
+    (λ c. search needs)
+    (λ c. search needs)
+    (λ c. search needs)
+    (λ c. search needs))

@@ -1,5 +1,7 @@
+use Prim.Native.Nat.{_*_, _+_, _-_}
+use Rattle.lang_ty.proofs.Ordering.{Ordered, ordered-start, ordered-more, ordered-less, ordered-greater, ordered-done, kinds-decide, at-same, at-never, at-end, at-num, at-child-end, at-child-num, at-deeper}
 use borrow.Author.Needs.{needs}
-use Prim.Native.Nat.{ℕ, _<_, _+_, _*_, _-_, _≤_}
+use Prim.Native.Nat.{ℕ, _<_}
 use borrow.Fn.Kinds.{In}
 use borrow.Fn.PlainCycle.{Measures, is, falls, and}
 use Rattle.lang_ty.proofs.arc_ty.compare.Reads as compare
@@ -12,6 +14,7 @@ use Rattle.lang_ty.proofs.arc_ty.compare_numbers.Reads as compare-numbe
 use Rattle.lang_ty.proofs.arc_ty.compare_plain.Reads as compare-plain-reads
 use Rattle.lang_ty.proofs.arc_ty.item_at.Reads as item-at-reads
 use Rattle.lang_ty.proofs.arc_ty.items.Reads as items-reads
+use Rattle.lang_ty.proofs.arc_ty.least.Reads as least-reads
 use Rattle.lang_ty.proofs.arena.kind.Reads as kind-reads
 use Rattle.lang_ty.proofs.arc_ty.+compare+compare_item.{statement}
 use Rattle.lang_ty.proofs.arc_ty.+compare+compare_item.Tie.{close}
@@ -41,405 +44,101 @@ compare-item-below t =
     compare-item.Pre
 
 abbrev compare-Inv-loop : compare-lts.InvT-loop
-compare-Inv-loop starts words a b j k n m i₀ i = i ≤ n
+compare-Inv-loop starts words a b j k n m l i₀ i = Ordered starts words a b l i
 
 abbrev compare-μ-loop : compare-lts.MeasureT-loop
-compare-μ-loop starts words a b j k n m i₀ i = n - i
+compare-μ-loop starts words a b j k n m l i₀ i = l - i
 
--- src/arc_ty.rt:170:9
-compare-kind-requires : (t : ℕ) → compare-lts.Need-kind-requires (
-  kind-reads.Asked,
-  kind-reads.Learnt,
-  compare-numbers-reads.Asked,
-  compare-numbers-reads.Learnt,
-  items-reads.Asked,
-  items-reads.Learnt,
-  compare-item-below t,
-  compare-item.Post,
-) (compare-at t) compare.Post compare-Inv-loop compare-μ-loop
-compare-kind-requires t c κs = search needs
+-- what `compare` is told of the functions that it calls
+abbrev compare-calls : ℕ → compare-lts.Claims
+compare-calls t = (kind-reads.Asked, kind-reads.Learnt, compare-numbers-reads.Asked, compare-numbers-reads.Learnt, items-reads.Asked, items-reads.Learnt, least-reads.Asked, least-reads.Learnt, compare-item-below t, compare-item.Post)
 
--- src/arc_ty.rt:171:9
-compare-kind-requires-2 : (t : ℕ) → compare-lts.Need-kind-requires-2 (
-  kind-reads.Asked,
-  kind-reads.Learnt,
-  compare-numbers-reads.Asked,
-  compare-numbers-reads.Learnt,
-  items-reads.Asked,
-  items-reads.Learnt,
-  compare-item-below t,
-  compare-item.Post,
-) (compare-at t) compare.Post compare-Inv-loop compare-μ-loop
-compare-kind-requires-2 t c κs = search needs
+-- what `compare-item` is told of the functions that it calls
+abbrev compare-item-calls : ℕ → compare-item-lts.Claims
+compare-item-calls t = (item-at-reads.Asked, item-at-reads.Learnt, compare-plain-reads.Asked, compare-plain-reads.Learnt, compare-below t, compare.Post)
 
--- src/arc_ty.rt:173:9
-compare-compare-numbers-requires : (t : ℕ) → compare-lts.Need-compare-numbers-requires (
-  kind-reads.Asked,
-  kind-reads.Learnt,
-  compare-numbers-reads.Asked,
-  compare-numbers-reads.Learnt,
-  items-reads.Asked,
-  items-reads.Learnt,
-  compare-item-below t,
-  compare-item.Post,
-) (compare-at t) compare.Post compare-Inv-loop compare-μ-loop
-compare-compare-numbers-requires t c κs = search needs
+compare-returns : (t : ℕ) → compare-lts.Need-returns (compare-calls t) (compare-at t) compare.Post compare-Inv-loop compare-μ-loop
+compare-returns t c = search kinds-decide
 
--- src/arc_ty.rt:173:9
-compare-returns : (t : ℕ) → compare-lts.Need-returns (
-  kind-reads.Asked,
-  kind-reads.Learnt,
-  compare-numbers-reads.Asked,
-  compare-numbers-reads.Learnt,
-  items-reads.Asked,
-  items-reads.Learnt,
-  compare-item-below t,
-  compare-item.Post,
-) (compare-at t) compare.Post compare-Inv-loop compare-μ-loop
-compare-returns t c = search needs
+compare-loop-holds : (t : ℕ) → compare-lts.Need-loop-holds (compare-calls t) (compare-at t) compare.Post compare-Inv-loop compare-μ-loop
+compare-loop-holds t c = search ordered-start
 
--- src/arc_ty.rt:175:9
-compare-items-requires : (t : ℕ) → compare-lts.Need-items-requires (
-  kind-reads.Asked,
-  kind-reads.Learnt,
-  compare-numbers-reads.Asked,
-  compare-numbers-reads.Learnt,
-  items-reads.Asked,
-  items-reads.Learnt,
-  compare-item-below t,
-  compare-item.Post,
-) (compare-at t) compare.Post compare-Inv-loop compare-μ-loop
-compare-items-requires t c κs = search needs
+compare-loop-again : (t : ℕ) → compare-lts.Need-loop-again (compare-calls t) (compare-at t) compare.Post compare-Inv-loop compare-μ-loop
+compare-loop-again t c = search ordered-more
 
--- src/arc_ty.rt:176:9
-compare-items-requires-2 : (t : ℕ) → compare-lts.Need-items-requires-2 (
-  kind-reads.Asked,
-  kind-reads.Learnt,
-  compare-numbers-reads.Asked,
-  compare-numbers-reads.Learnt,
-  items-reads.Asked,
-  items-reads.Learnt,
-  compare-item-below t,
-  compare-item.Post,
-) (compare-at t) compare.Post compare-Inv-loop compare-μ-loop
-compare-items-requires-2 t c κs = search needs
+compare-returns-2 : (t : ℕ) → compare-lts.Need-returns-2 (compare-calls t) (compare-at t) compare.Post compare-Inv-loop compare-μ-loop
+compare-returns-2 t c = search ordered-less
 
--- src/arc_ty.rt:178:5
-compare-loop-holds : (t : ℕ) → compare-lts.Need-loop-holds (
-  kind-reads.Asked,
-  kind-reads.Learnt,
-  compare-numbers-reads.Asked,
-  compare-numbers-reads.Learnt,
-  items-reads.Asked,
-  items-reads.Learnt,
-  compare-item-below t,
-  compare-item.Post,
-) (compare-at t) compare.Post compare-Inv-loop compare-μ-loop
-compare-loop-holds t c = search needs
+compare-returns-3 : (t : ℕ) → compare-lts.Need-returns-3 (compare-calls t) (compare-at t) compare.Post compare-Inv-loop compare-μ-loop
+compare-returns-3 t c = search ordered-greater
 
--- src/arc_ty.rt:179:15
-compare-compare-item-requires : (t : ℕ) → compare-lts.Need-compare-item-requires (
-  kind-reads.Asked,
-  kind-reads.Learnt,
-  compare-numbers-reads.Asked,
-  compare-numbers-reads.Learnt,
-  items-reads.Asked,
-  items-reads.Learnt,
-  compare-item-below t,
-  compare-item.Post,
-) (compare-at t) compare.Post compare-Inv-loop compare-μ-loop
-compare-compare-item-requires t c κs = search needs
+compare-returns-4 : (t : ℕ) → compare-lts.Need-returns-4 (compare-calls t) (compare-at t) compare.Post compare-Inv-loop compare-μ-loop
+compare-returns-4 t c = search ordered-done
 
--- src/arc_ty.rt:181:17
-compare-enum-told : (t : ℕ) → compare-lts.Need-enum-told (
-  kind-reads.Asked,
-  kind-reads.Learnt,
-  compare-numbers-reads.Asked,
-  compare-numbers-reads.Learnt,
-  items-reads.Asked,
-  items-reads.Learnt,
-  compare-item-below t,
-  compare-item.Post,
-) (compare-at t) compare.Post compare-Inv-loop compare-μ-loop
-compare-enum-told t c = search needs
+compare-item-returns : (t : ℕ) → compare-item-lts.Need-returns (compare-item-calls t) (compare-item-at t) compare-item.Post
+compare-item-returns t c = search at-same
 
--- src/arc_ty.rt:181:17
-compare-add-i : (t : ℕ) → compare-lts.Need-add-i (
-  kind-reads.Asked,
-  kind-reads.Learnt,
-  compare-numbers-reads.Asked,
-  compare-numbers-reads.Learnt,
-  items-reads.Asked,
-  items-reads.Learnt,
-  compare-item-below t,
-  compare-item.Post,
-) (compare-at t) compare.Post compare-Inv-loop compare-μ-loop
-compare-add-i t c = search needs
+compare-item-returns-2 : (t : ℕ) → compare-item-lts.Need-returns-2 (compare-item-calls t) (compare-item-at t) compare-item.Post
+compare-item-returns-2 t c = search at-never
 
--- src/arc_ty.rt:178:5
-compare-loop-less : (t : ℕ) → compare-lts.Need-loop-less (
-  kind-reads.Asked,
-  kind-reads.Learnt,
-  compare-numbers-reads.Asked,
-  compare-numbers-reads.Learnt,
-  items-reads.Asked,
-  items-reads.Learnt,
-  compare-item-below t,
-  compare-item.Post,
-) (compare-at t) compare.Post compare-Inv-loop compare-μ-loop
-compare-loop-less t c = search needs
+compare-item-returns-3 : (t : ℕ) → compare-item-lts.Need-returns-3 (compare-item-calls t) (compare-item-at t) compare-item.Post
+compare-item-returns-3 t c = search (at-end, at-num, at-child-end, at-child-num, at-deeper)
 
--- src/arc_ty.rt:178:5
-compare-loop-again : (t : ℕ) → compare-lts.Need-loop-again (
-  kind-reads.Asked,
-  kind-reads.Learnt,
-  compare-numbers-reads.Asked,
-  compare-numbers-reads.Learnt,
-  items-reads.Asked,
-  items-reads.Learnt,
-  compare-item-below t,
-  compare-item.Post,
-) (compare-at t) compare.Post compare-Inv-loop compare-μ-loop
-compare-loop-again t c = search needs
+compare-item-returns-4 : (t : ℕ) → compare-item-lts.Need-returns-4 (compare-item-calls t) (compare-item-at t) compare-item.Post
+compare-item-returns-4 t c = search (at-end, at-num, at-child-end, at-child-num, at-deeper)
 
--- src/arc_ty.rt:184:17
-compare-enum-told-2 : (t : ℕ) → compare-lts.Need-enum-told-2 (
-  kind-reads.Asked,
-  kind-reads.Learnt,
-  compare-numbers-reads.Asked,
-  compare-numbers-reads.Learnt,
-  items-reads.Asked,
-  items-reads.Learnt,
-  compare-item-below t,
-  compare-item.Post,
-) (compare-at t) compare.Post compare-Inv-loop compare-μ-loop
-compare-enum-told-2 t c = search needs
+compare-item-returns-5 : (t : ℕ) → compare-item-lts.Need-returns-5 (compare-item-calls t) (compare-item-at t) compare-item.Post
+compare-item-returns-5 t c = search (at-end, at-num, at-child-end, at-child-num, at-deeper)
 
--- src/arc_ty.rt:184:17
-compare-returns-2 : (t : ℕ) → compare-lts.Need-returns-2 (
-  kind-reads.Asked,
-  kind-reads.Learnt,
-  compare-numbers-reads.Asked,
-  compare-numbers-reads.Learnt,
-  items-reads.Asked,
-  items-reads.Learnt,
-  compare-item-below t,
-  compare-item.Post,
-) (compare-at t) compare.Post compare-Inv-loop compare-μ-loop
-compare-returns-2 t c = search needs
+compare-item-returns-6 : (t : ℕ) → compare-item-lts.Need-returns-6 (compare-item-calls t) (compare-item-at t) compare-item.Post
+compare-item-returns-6 t c = search (at-end, at-num, at-child-end, at-child-num, at-deeper)
 
--- src/arc_ty.rt:187:17
-compare-enum-told-3 : (t : ℕ) → compare-lts.Need-enum-told-3 (
-  kind-reads.Asked,
-  kind-reads.Learnt,
-  compare-numbers-reads.Asked,
-  compare-numbers-reads.Learnt,
-  items-reads.Asked,
-  items-reads.Learnt,
-  compare-item-below t,
-  compare-item.Post,
-) (compare-at t) compare.Post compare-Inv-loop compare-μ-loop
-compare-enum-told-3 t c = search needs
-
--- src/arc_ty.rt:187:17
-compare-returns-3 : (t : ℕ) → compare-lts.Need-returns-3 (
-  kind-reads.Asked,
-  kind-reads.Learnt,
-  compare-numbers-reads.Asked,
-  compare-numbers-reads.Learnt,
-  items-reads.Asked,
-  items-reads.Learnt,
-  compare-item-below t,
-  compare-item.Post,
-) (compare-at t) compare.Post compare-Inv-loop compare-μ-loop
-compare-returns-3 t c = search needs
-
--- src/arc_ty.rt:191:5
-compare-compare-numbers-requires-2 : (t : ℕ) → compare-lts.Need-compare-numbers-requires-2 (
-  kind-reads.Asked,
-  kind-reads.Learnt,
-  compare-numbers-reads.Asked,
-  compare-numbers-reads.Learnt,
-  items-reads.Asked,
-  items-reads.Learnt,
-  compare-item-below t,
-  compare-item.Post,
-) (compare-at t) compare.Post compare-Inv-loop compare-μ-loop
-compare-compare-numbers-requires-2 t c κs = search needs
-
--- src/arc_ty.rt:169:1
-compare-returns-4 : (t : ℕ) → compare-lts.Need-returns-4 (
-  kind-reads.Asked,
-  kind-reads.Learnt,
-  compare-numbers-reads.Asked,
-  compare-numbers-reads.Learnt,
-  items-reads.Asked,
-  items-reads.Learnt,
-  compare-item-below t,
-  compare-item.Post,
-) (compare-at t) compare.Post compare-Inv-loop compare-μ-loop
-compare-returns-4 t c = search needs
-
--- src/arc_ty.rt:152:9
-compare-item-item-at-requires : (t : ℕ) → compare-item-lts.Need-item-at-requires (
-  item-at-reads.Asked,
-  item-at-reads.Learnt,
-  compare-below t,
-  compare.Post,
-  compare-plain-reads.Asked,
-  compare-plain-reads.Learnt,
-) (compare-item-at t) compare-item.Post
-compare-item-item-at-requires t c κs = search needs
-
--- src/arc_ty.rt:153:9
-compare-item-item-at-requires-2 : (t : ℕ) → compare-item-lts.Need-item-at-requires-2 (
-  item-at-reads.Asked,
-  item-at-reads.Learnt,
-  compare-below t,
-  compare.Post,
-  compare-plain-reads.Asked,
-  compare-plain-reads.Learnt,
-) (compare-item-at t) compare-item.Post
-compare-item-item-at-requires-2 t c κs = search needs
-
--- src/arc_ty.rt:154:24
-compare-item-enum-known-s : (t : ℕ) → compare-item-lts.Need-enum-known-s (
-  item-at-reads.Asked,
-  item-at-reads.Learnt,
-  compare-below t,
-  compare.Post,
-  compare-plain-reads.Asked,
-  compare-plain-reads.Learnt,
-) (compare-item-at t) compare-item.Post
-compare-item-enum-known-s t c = search needs
-
--- src/arc_ty.rt:155:28
-compare-item-enum-known-t : (t : ℕ) → compare-item-lts.Need-enum-known-t (
-  item-at-reads.Asked,
-  item-at-reads.Learnt,
-  compare-below t,
-  compare.Post,
-  compare-plain-reads.Asked,
-  compare-plain-reads.Learnt,
-) (compare-item-at t) compare-item.Post
-compare-item-enum-known-t t c = search needs
-
--- src/arc_ty.rt:157:17
-compare-item-returns : (t : ℕ) → compare-item-lts.Need-returns (
-  item-at-reads.Asked,
-  item-at-reads.Learnt,
-  compare-below t,
-  compare.Post,
-  compare-plain-reads.Asked,
-  compare-plain-reads.Learnt,
-) (compare-item-at t) compare-item.Post
-compare-item-returns t c = search needs
-
--- src/arc_ty.rt:160:17
-compare-item-returns-2 : (t : ℕ) → compare-item-lts.Need-returns-2 (
-  item-at-reads.Asked,
-  item-at-reads.Learnt,
-  compare-below t,
-  compare.Post,
-  compare-plain-reads.Asked,
-  compare-plain-reads.Learnt,
-) (compare-item-at t) compare-item.Post
-compare-item-returns-2 t c = search needs
-
--- src/arc_ty.rt:162:13
-compare-item-compare-requires : (t : ℕ) → compare-item-lts.Need-compare-requires (
-  item-at-reads.Asked,
-  item-at-reads.Learnt,
-  compare-below t,
-  compare.Post,
-  compare-plain-reads.Asked,
-  compare-plain-reads.Learnt,
-) (compare-item-at t) compare-item.Post
-compare-item-compare-requires t c κs = search needs
-
--- src/arc_ty.rt:162:13
-compare-item-returns-3 : (t : ℕ) → compare-item-lts.Need-returns-3 (
-  item-at-reads.Asked,
-  item-at-reads.Learnt,
-  compare-below t,
-  compare.Post,
-  compare-plain-reads.Asked,
-  compare-plain-reads.Learnt,
-) (compare-item-at t) compare-item.Post
-compare-item-returns-3 t c = search needs
-
--- src/arc_ty.rt:165:5
-compare-item-compare-plain-requires : (t : ℕ) → compare-item-lts.Need-compare-plain-requires (
-  item-at-reads.Asked,
-  item-at-reads.Learnt,
-  compare-below t,
-  compare.Post,
-  compare-plain-reads.Asked,
-  compare-plain-reads.Learnt,
-) (compare-item-at t) compare-item.Post
-compare-item-compare-plain-requires t c κs = search needs
-
--- src/arc_ty.rt:151:1
-compare-item-returns-4 : (t : ℕ) → compare-item-lts.Need-returns-4 (
-  item-at-reads.Asked,
-  item-at-reads.Learnt,
-  compare-below t,
-  compare.Post,
-  compare-plain-reads.Asked,
-  compare-plain-reads.Learnt,
-) (compare-item-at t) compare-item.Post
-compare-item-returns-4 t c = search needs
+compare-item-returns-7 : (t : ℕ) → compare-item-lts.Need-returns-7 (compare-item-calls t) (compare-item-at t) compare-item.Post
+compare-item-returns-7 t c = search (at-end, at-num, at-child-end, at-child-num, at-deeper)
 
 pub +compare+compare-item-spec : {M : Type 1} → statement M
-+compare+compare-item-spec = close μ-compare μ-compare-item (λ t. compare-lts.spec (
-  kind-reads.Asked,
-  kind-reads.Learnt,
-  compare-numbers-reads.Asked,
-  compare-numbers-reads.Learnt,
-  items-reads.Asked,
-  items-reads.Learnt,
-  compare-item-below t,
-  compare-item.Post,
-)
++compare+compare-item-spec = close μ-compare μ-compare-item (λ t. compare-lts.spec (compare-calls t)
     (compare-at t)
     compare.Post
     compare-Inv-loop
     compare-μ-loop
-    (compare-kind-requires t)
-    (compare-kind-requires-2 t)
-    (compare-compare-numbers-requires t)
+    (λ c _. search needs)
+    (λ c _. search needs)
+    (λ c _. search needs)
     (compare-returns t)
-    (compare-items-requires t)
-    (compare-items-requires-2 t)
+    (λ c _. search needs)
+    (λ c _. search needs)
+    (λ c _. search needs)
     (compare-loop-holds t)
-    (compare-compare-item-requires t)
-    (compare-enum-told t)
-    (compare-add-i t)
-    (compare-loop-less t)
+    (λ c _. search needs)
+    (λ c. search needs)
+    (λ c. search needs)
+    (λ c. search needs)
     (compare-loop-again t)
-    (compare-enum-told-2 t)
+    (λ c. search needs)
     (compare-returns-2 t)
-    (compare-enum-told-3 t)
+    (λ c. search needs)
     (compare-returns-3 t)
-    (compare-compare-numbers-requires-2 t)
+    (λ c _. search needs)
     (compare-returns-4 t))
-    λ t. compare-item-lts.spec (
-      item-at-reads.Asked,
-      item-at-reads.Learnt,
-      compare-below t,
-      compare.Post,
-      compare-plain-reads.Asked,
-      compare-plain-reads.Learnt,
-    )
+    λ t. compare-item-lts.spec (compare-item-calls t)
     (compare-item-at t)
     compare-item.Post
-    (compare-item-item-at-requires t)
-    (compare-item-item-at-requires-2 t)
-    (compare-item-enum-known-s t)
-    (compare-item-enum-known-t t)
+    (λ c _. search needs)
+    (λ c _. search needs)
+    (λ c. search needs)
+    (λ c _. search needs)
+    (λ c. search needs)
+    (λ c _. search needs)
+    (λ c. search needs)
+    (λ c. search needs)
+    (λ c. search needs)
+    (λ c. search needs)
     (compare-item-returns t)
     (compare-item-returns-2 t)
-    (compare-item-compare-requires t)
+    (λ c _. search needs)
     (compare-item-returns-3 t)
-    (compare-item-compare-plain-requires t)
     (compare-item-returns-4 t)
+    (compare-item-returns-5 t)
+    (compare-item-returns-6 t)
+    (compare-item-returns-7 t)

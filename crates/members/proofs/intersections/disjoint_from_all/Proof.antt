@@ -2,11 +2,6 @@ use borrow.Author.Needs.{needs}
 use Prim.Native.Nat.{_-_, _≤_}
 use Rattle.members.proofs.intersections.disjoint_from_all.Statement.{statement}
 use Rattle.members.proofs.intersections.disjoint_from_all.Tie as tie
-use Rattle.members.proofs.intersections.disjoint_from_all.Reads as reads
-use Rattle.members.proofs.intersections.disjoint_from_all.Lts as lts
-use Rattle.cells.proofs.at.Reads as at-reads
-use Rattle.lang_ty.proofs.disjoint.are_shapes_disjoint.Reads as are-shapes-disjoint-reads
-use Rattle.members.proofs.lists.is_concrete.Reads as is-concrete-reads
 
 abbrev Inv-loop : tie.InvT-loop
 Inv-loop starts words functor s n x i₀ i = i ≤ n
@@ -14,54 +9,18 @@ Inv-loop starts words functor s n x i₀ i = i ≤ n
 abbrev μ-loop : tie.MeasureT-loop
 μ-loop starts words functor s n x i₀ i = n - i
 
--- src/intersections.rt:26:5
-loop-holds : tie.Need-loop-holds Inv-loop μ-loop
-loop-holds c = search needs
-
--- src/intersections.rt:27:13
-at-requires : tie.Need-at-requires Inv-loop μ-loop
-at-requires c κs = search needs
-
--- src/intersections.rt:28:12
-is-concrete-requires : tie.Need-is-concrete-requires Inv-loop μ-loop
-is-concrete-requires c κs = search needs
-
--- src/intersections.rt:28:46
-are-shapes-disjoint-requires : tie.Need-are-shapes-disjoint-requires Inv-loop μ-loop
-are-shapes-disjoint-requires c κs = search needs
-
--- src/intersections.rt:29:13
-returns : tie.Need-returns Inv-loop μ-loop
-returns c = search needs
-
--- src/intersections.rt:31:9
-add-i : tie.Need-add-i Inv-loop μ-loop
-add-i c = search needs
-
--- src/intersections.rt:26:5
-loop-less : tie.Need-loop-less Inv-loop μ-loop
-loop-less c = search needs
-
--- src/intersections.rt:26:5
-loop-again : tie.Need-loop-again Inv-loop μ-loop
-loop-again c = search needs
-
--- src/intersections.rt:24:1
-returns-2 : tie.Need-returns-2 Inv-loop μ-loop
-returns-2 c = search needs
-
 pub disjoint-from-all-spec : {M : Type 1} → statement M
 disjoint-from-all-spec =
     tie.close
     (tie.spec
     Inv-loop
     μ-loop
-    loop-holds
-    at-requires
-    is-concrete-requires
-    are-shapes-disjoint-requires
-    returns
-    add-i
-    loop-less
-    loop-again
-    returns-2)
+    (λ c. search needs)
+    (λ c _. search needs)
+    (λ c _. search needs)
+    (λ c _. search needs)
+    (λ c. search needs)
+    (λ c. search needs)
+    (λ c. search needs)
+    (λ c. search needs)
+    (λ c. search needs))

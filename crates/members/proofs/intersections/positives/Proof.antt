@@ -4,11 +4,6 @@ use mathlib.Core.Path.{_≡_}
 use lib.ListN.{length}
 use Rattle.members.proofs.intersections.positives.Statement.{statement}
 use Rattle.members.proofs.intersections.positives.Tie as tie
-use Rattle.members.proofs.intersections.positives.Reads as reads
-use Rattle.members.proofs.intersections.positives.Lts as lts
-use Rattle.cells.proofs.at.Reads as at-reads
-use Rattle.members.proofs.lists.is_positive.Reads as is-positive-reads
-use Rattle.members.proofs.lists.keep_if.Reads as keep-if-reads
 
 abbrev Inv-loop : tie.InvT-loop
 Inv-loop starts words ms n out₀ k₀ i₀ out k i = (i ≤ n) × (length out ≡ length out₀)
@@ -16,59 +11,19 @@ Inv-loop starts words ms n out₀ k₀ i₀ out k i = (i ≤ n) × (length out �
 abbrev μ-loop : tie.MeasureT-loop
 μ-loop starts words ms n out₀ k₀ i₀ out k i = n - i
 
--- src/intersections.rt:117:5
-loop-holds : tie.Need-loop-holds Inv-loop μ-loop
-loop-holds c = search needs
-
--- src/intersections.rt:118:20
-slice-aggregate-at : tie.Need-slice-aggregate-at Inv-loop μ-loop
-slice-aggregate-at c = search needs
-
--- src/intersections.rt:118:13
-at-requires : tie.Need-at-requires Inv-loop μ-loop
-at-requires c κs = search needs
-
--- src/intersections.rt:119:21
-slice-aggregate-keep-if : tie.Need-slice-aggregate-keep-if Inv-loop μ-loop
-slice-aggregate-keep-if c = search needs
-
--- src/intersections.rt:119:37
-is-positive-requires : tie.Need-is-positive-requires Inv-loop μ-loop
-is-positive-requires c κs = search needs
-
--- src/intersections.rt:119:9
-keep-if-requires : tie.Need-keep-if-requires Inv-loop μ-loop
-keep-if-requires c κs = search needs
-
--- src/intersections.rt:120:9
-add-i : tie.Need-add-i Inv-loop μ-loop
-add-i c = search needs
-
--- src/intersections.rt:117:5
-loop-less : tie.Need-loop-less Inv-loop μ-loop
-loop-less c = search needs
-
--- src/intersections.rt:117:5
-loop-again : tie.Need-loop-again Inv-loop μ-loop
-loop-again c = search needs
-
--- src/intersections.rt:111:1
-returns : tie.Need-returns Inv-loop μ-loop
-returns c = search needs
-
 pub positives-spec : {M : Type 1} → statement M
 positives-spec =
     tie.close
     (tie.spec
     Inv-loop
     μ-loop
-    loop-holds
-    slice-aggregate-at
-    at-requires
-    slice-aggregate-keep-if
-    is-positive-requires
-    keep-if-requires
-    add-i
-    loop-less
-    loop-again
-    returns)
+    (λ c. search needs)
+    (λ c. search needs)
+    (λ c _. search needs)
+    (λ c. search needs)
+    (λ c _. search needs)
+    (λ c _. search needs)
+    (λ c. search needs)
+    (λ c. search needs)
+    (λ c. search needs)
+    (λ c. search needs))

@@ -5,10 +5,6 @@ use mathlib.Core.Path.{_≡_}
 use lib.ListN.{length}
 use Rattle.members.proofs.merge.merge_sets.Statement.{statement}
 use Rattle.members.proofs.merge.merge_sets.Tie as tie
-use Rattle.members.proofs.merge.merge_sets.Reads as reads
-use Rattle.members.proofs.merge.merge_sets.Lts as lts
-use Rattle.cells.proofs.at.Reads as at-reads
-use Rattle.members.proofs.merge.merge_one.Reads as merge-one-reads
 
 abbrev Inv-loop : tie.InvT-loop
 Inv-loop starts₀ words₀ held₀ h ms n g₀ q₀ i₀ starts words held g q i = (i ≤ n) × (n ≤ 4294967295) × (length starts ≡ length starts₀) × (length words ≡ length words₀) × (length held ≡ length held₀)
@@ -16,73 +12,8 @@ Inv-loop starts₀ words₀ held₀ h ms n g₀ q₀ i₀ starts words held g q 
 abbrev μ-loop : tie.MeasureT-loop
 μ-loop starts₀ words₀ held₀ h ms n g₀ q₀ i₀ starts words held g q i = n - i
 
--- src/merge.rt:224:5
-loop-holds : tie.Need-loop-holds Inv-loop μ-loop
-loop-holds c = search needs
-
--- src/merge.rt:225:58
-slice-aggregate-at : tie.Need-slice-aggregate-at Inv-loop μ-loop
-slice-aggregate-at c = search needs
-
--- src/merge.rt:225:55
-at-requires : tie.Need-at-requires Inv-loop μ-loop
-at-requires c κs = search needs
-
--- src/merge.rt:225:15
-merge-one-requires : tie.Need-merge-one-requires Inv-loop μ-loop
-merge-one-requires c κs = search needs
-
--- src/merge.rt:226:24
-enum-known-d : tie.Need-enum-known-d Inv-loop μ-loop
-enum-known-d c = search needs
-
--- src/merge.rt:229:17
 add-i : tie.Need-add-i Inv-loop μ-loop
 add-i c = omega (arith, c .before .before .before .before .before .before .before .before .before .before .before .before .before .before .before .before .loop .inv .0, c .before .before .before .before .before .before .before .before .before .before .before .before .before .before .before .before .loop .inv .1, c .before .before .before .before .before .before .before .before .before .before .before .before .before .before .before .loop-test .taken)
-
--- src/merge.rt:224:5
-loop-less : tie.Need-loop-less Inv-loop μ-loop
-loop-less c = search needs
-
--- src/merge.rt:224:5
-loop-again : tie.Need-loop-again Inv-loop μ-loop
-loop-again c = search needs
-
--- src/merge.rt:231:29
-enum-known-k : tie.Need-enum-known-k Inv-loop μ-loop
-enum-known-k c = search needs
-
--- src/merge.rt:232:17
-same-length : tie.Need-same-length Inv-loop μ-loop
-same-length c = search needs
-
--- src/merge.rt:232:17
-same-length-2 : tie.Need-same-length-2 Inv-loop μ-loop
-same-length-2 c = search needs
-
--- src/merge.rt:232:17
-same-length-3 : tie.Need-same-length-3 Inv-loop μ-loop
-same-length-3 c = search needs
-
--- src/merge.rt:232:17
-returns : tie.Need-returns Inv-loop μ-loop
-returns c = search needs
-
--- src/merge.rt:213:1
-same-length-4 : tie.Need-same-length-4 Inv-loop μ-loop
-same-length-4 c = search needs
-
--- src/merge.rt:213:1
-same-length-5 : tie.Need-same-length-5 Inv-loop μ-loop
-same-length-5 c = search needs
-
--- src/merge.rt:213:1
-same-length-6 : tie.Need-same-length-6 Inv-loop μ-loop
-same-length-6 c = search needs
-
--- src/merge.rt:213:1
-returns-2 : tie.Need-returns-2 Inv-loop μ-loop
-returns-2 c = search needs
 
 pub merge-sets-spec : {M : Type 1} → statement M
 merge-sets-spec =
@@ -90,20 +21,20 @@ merge-sets-spec =
     (tie.spec
     Inv-loop
     μ-loop
-    loop-holds
-    slice-aggregate-at
-    at-requires
-    merge-one-requires
-    enum-known-d
+    (λ c. search needs)
+    (λ c. search needs)
+    (λ c _. search needs)
+    (λ c _. search needs)
+    (λ c. search needs)
     add-i
-    loop-less
-    loop-again
-    enum-known-k
-    same-length
-    same-length-2
-    same-length-3
-    returns
-    same-length-4
-    same-length-5
-    same-length-6
-    returns-2)
+    (λ c. search needs)
+    (λ c. search needs)
+    (λ c. search needs)
+    (λ c. search needs)
+    (λ c. search needs)
+    (λ c. search needs)
+    (λ c. search needs)
+    (λ c. search needs)
+    (λ c. search needs)
+    (λ c. search needs)
+    (λ c. search needs))

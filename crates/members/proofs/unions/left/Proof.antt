@@ -4,10 +4,6 @@ use mathlib.Core.Path.{_≡_}
 use lib.ListN.{length}
 use Rattle.members.proofs.unions.left.Statement.{statement}
 use Rattle.members.proofs.unions.left.Tie as tie
-use Rattle.members.proofs.unions.left.Reads as reads
-use Rattle.members.proofs.unions.left.Lts as lts
-use Rattle.cells.proofs.at.Reads as at-reads
-use Rattle.members.proofs.lists.keep_if.Reads as keep-if-reads
 
 abbrev Inv-loop : tie.InvT-loop
 Inv-loop gone ms n out₀ k₀ i₀ out k i = (i ≤ n) × (length out ≡ length out₀)
@@ -15,59 +11,19 @@ Inv-loop gone ms n out₀ k₀ i₀ out k i = (i ≤ n) × (length out ≡ lengt
 abbrev μ-loop : tie.MeasureT-loop
 μ-loop gone ms n out₀ k₀ i₀ out k i = n - i
 
--- src/unions.rt:111:5
-loop-holds : tie.Need-loop-holds Inv-loop μ-loop
-loop-holds c = search needs
-
--- src/unions.rt:112:21
-slice-aggregate-keep-if : tie.Need-slice-aggregate-keep-if Inv-loop μ-loop
-slice-aggregate-keep-if c = search needs
-
--- src/unions.rt:112:37
-slice-aggregate-at : tie.Need-slice-aggregate-at Inv-loop μ-loop
-slice-aggregate-at c = search needs
-
--- src/unions.rt:112:34
-at-requires : tie.Need-at-requires Inv-loop μ-loop
-at-requires c κs = search needs
-
--- src/unions.rt:112:46
-at-requires-2 : tie.Need-at-requires-2 Inv-loop μ-loop
-at-requires-2 c κs = search needs
-
--- src/unions.rt:112:9
-keep-if-requires : tie.Need-keep-if-requires Inv-loop μ-loop
-keep-if-requires c κs = search needs
-
--- src/unions.rt:113:9
-add-i : tie.Need-add-i Inv-loop μ-loop
-add-i c = search needs
-
--- src/unions.rt:111:5
-loop-less : tie.Need-loop-less Inv-loop μ-loop
-loop-less c = search needs
-
--- src/unions.rt:111:5
-loop-again : tie.Need-loop-again Inv-loop μ-loop
-loop-again c = search needs
-
--- src/unions.rt:105:1
-returns : tie.Need-returns Inv-loop μ-loop
-returns c = search needs
-
 pub left-spec : {M : Type 1} → statement M
 left-spec =
     tie.close
     (tie.spec
     Inv-loop
     μ-loop
-    loop-holds
-    slice-aggregate-keep-if
-    slice-aggregate-at
-    at-requires
-    at-requires-2
-    keep-if-requires
-    add-i
-    loop-less
-    loop-again
-    returns)
+    (λ c. search needs)
+    (λ c. search needs)
+    (λ c. search needs)
+    (λ c _. search needs)
+    (λ c _. search needs)
+    (λ c _. search needs)
+    (λ c. search needs)
+    (λ c. search needs)
+    (λ c. search needs)
+    (λ c. search needs))

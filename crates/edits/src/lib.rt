@@ -1,0 +1,3 @@
+// Two tables side by side: whether recheck may compare them, and which roots lead to an entry that differs.
+pub mod compare;
+pub mod reach;

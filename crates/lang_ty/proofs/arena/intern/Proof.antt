@@ -1,0 +1,25 @@
+use Rattle.lang_ty.proofs.Keeping.{interned-old, interned-new}
+use borrow.Author.Needs.{needs}
+use Rattle.lang_ty.proofs.arena.intern.Statement.{statement}
+use Rattle.lang_ty.proofs.arena.intern.Tie as tie
+
+returns : tie.Need-returns
+returns c = search interned-old
+
+returns-2 : tie.Need-returns-2
+returns-2 c = search interned-new
+
+pub intern-spec : {M : Type 1} → statement M
+intern-spec =
+    tie.close
+    (tie.spec
+    (λ c _. search needs)
+    (λ c _. search needs)
+    (λ c. search needs)
+    (λ c. search needs)
+    (λ c _. search needs)
+    (λ c _. search needs)
+    (λ c. search needs)
+    returns
+    (λ c. search needs)
+    returns-2)

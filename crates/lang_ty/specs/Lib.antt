@@ -1,0 +1,4 @@
+pub mod Nodes
+pub mod Sets
+pub mod Shapes
+pub mod Orders

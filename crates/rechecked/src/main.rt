@@ -1,0 +1,18 @@
+// Runs the worked examples of recheck: each input with the output that the rules give for it; writes how many were tried and how many differ.
+ghost use mathlib.Core.Path.{_≡_};
+ghost use lib.ListN.{length};
+use libc::STDIN_FILENO;
+use programs::Program;
+
+fn room() -> [u8; 524288]
+    ensures { λ r. ⌜ 524288 ≡ length r ⌝ }
+{
+    [0u8; 524288]
+}
+
+fn main() {
+    let mut input = room();
+    let n = io::read_full(STDIN_FILENO, &mut input);
+    let t = programs::replay(Program::Recheck, &input[..n]);
+    programs::report(t, b" examples, ");
+}
