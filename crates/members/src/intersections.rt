@@ -19,21 +19,37 @@ use lang_ty::arena::OutputTy;
 use lang_ty::arena::Pass;
 use lang_ty::disjoint;
 use lang_ty::primitive;
+ghost use Rattle.rules.specs.Members.{isPositive, is-output-subtype-or-equal, remove-redundant-negations};
+ghost use Rattle.members.specs.Lists.{Makes, Tests, sift};
+ghost use Rattle.members.specs.Intersections.{firstOf, Pairs, Probes, Beside, anyConcrete, overlap, redundant};
 
-// Whether what a Neg holds, x, is disjoint from every member with a known constructor.
-fn disjoint_from_all(starts: &[u32], words: &[u32], functor: u32, s: &[u32], n: u32, x: u32) -> bool {
+// Whether y has a known constructor and is not disjoint from x.
+fn overlaps(starts: &[u32], words: &[u32], functor: u32, x: u32, y: u32) -> bool
+    ensures { λ r. ⌜ Pairs (overlap functor) (now (starts .entry)) (now (words .entry)) x y r ⌝ }
+{
+    if !is_concrete(starts, words, y) {
+        return false;
+    }
+    !disjoint::are_shapes_disjoint(starts, words, functor, y, x)
+}
+
+// Whether x is not disjoint from one of the members with a known constructor.
+fn overlaps_one(starts: &[u32], words: &[u32], functor: u32, s: &[u32], n: u32, x: u32) -> bool
+    ensures { λ r. ⌜ Probes (overlap functor) (now (starts .entry)) (now (words .entry)) (now (s .entry)) n x r ⌝ }
+{
     let mut i = 0;
     while i < n {
-        let m = at(s, i);
-        if is_concrete(starts, words, m) && !disjoint::are_shapes_disjoint(starts, words, functor, m, x) {
-            return false;
+        if overlaps(starts, words, functor, x, at(s, i)) {
+            return true;
         }
         i += 1;
     }
-    true
+    false
 }
 
-fn any_concrete(starts: &[u32], words: &[u32], s: &[u32], n: u32) -> bool {
+fn any_concrete(starts: &[u32], words: &[u32], s: &[u32], n: u32) -> bool
+    ensures { λ r. ⌜ Tests anyConcrete (now (starts .entry)) (now (words .entry)) (firstOf n (now (s .entry))) r ⌝ }
+{
     let mut i = 0;
     while i < n {
         if is_concrete(starts, words, at(s, i)) {
@@ -45,7 +61,9 @@ fn any_concrete(starts: &[u32], words: &[u32], s: &[u32], n: u32) -> bool {
 }
 
 // remove_redundant_negations
-pub fn remove_redundant_negations(starts: &[u32], words: &[u32], functor: u32, m: Members) -> Members {
+pub fn remove_redundant_negations(starts: &[u32], words: &[u32], functor: u32, m: Members) -> Members
+    ensures { λ r. ⌜ Makes (remove-redundant-negations functor) (now (starts .entry)) (now (words .entry)) m r ⌝ }
+{
     let ms = m.at;
     let n = m.count;
     if !any_concrete(starts, words, &ms, n) {
@@ -62,19 +80,27 @@ pub fn remove_redundant_negations(starts: &[u32], words: &[u32], functor: u32, m
     Members { count: k, at: out }
 }
 
-fn is_redundant(starts: &[u32], words: &[u32], functor: u32, s: &[u32], n: u32, x: u32) -> bool {
+// x is a Neg, and what it holds is disjoint from every member with a known constructor.
+fn is_redundant(starts: &[u32], words: &[u32], functor: u32, s: &[u32], n: u32, x: u32) -> bool
+    ensures { λ r. ⌜ Beside (redundant functor) (now (starts .entry)) (now (words .entry)) (now (s .entry)) n x r ⌝ }
+{
     if !arena::is(starts, words, OutputTy::NEG, x) {
         return false;
     }
-    disjoint_from_all(starts, words, functor, s, n, arena::word(starts, words, x, 1))
+    !overlaps_one(starts, words, functor, s, n, arena::word(starts, words, x, 1))
 }
 
 // is_output_subtype_or_equal
-fn is_output_subtype_or_equal(starts: &[u32], words: &[u32], a: u32, b: u32) -> bool {
+fn is_output_subtype_or_equal(starts: &[u32], words: &[u32], a: u32, b: u32) -> bool
+    ensures { λ r. ⌜ Pairs is-output-subtype-or-equal (now (starts .entry)) (now (words .entry)) a b r ⌝ }
+{
     if a == b {
         return true;
     }
-    if !arena::is(starts, words, OutputTy::PRIMITIVE, a) || !arena::is(starts, words, OutputTy::PRIMITIVE, b) {
+    if !arena::is(starts, words, OutputTy::PRIMITIVE, a) {
+        return false;
+    }
+    if !arena::is(starts, words, OutputTy::PRIMITIVE, b) {
         return false;
     }
     primitive::is_subtype_of(arena::word(starts, words, a, 1), arena::word(starts, words, b, 1))
@@ -108,7 +134,9 @@ fn any_negated(starts: &[u32], words: &[u32], s: &[u32], n: u32) -> bool {
 }
 
 // The positives among the members.
-fn positives(starts: &[u32], words: &[u32], m: Members) -> Members {
+fn positives(starts: &[u32], words: &[u32], m: Members) -> Members
+    ensures { λ r. ⌜ Makes (sift isPositive) (now (starts .entry)) (now (words .entry)) m r ⌝ }
+{
     let ms = m.at;
     let n = m.count;
     let mut out = [0u32; 128];

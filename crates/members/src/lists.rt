@@ -10,6 +10,10 @@ use lang_ty::arena::Given;
 use lang_ty::arena::OutputTy;
 use lang_ty::arena::Pass;
 use lang_ty::disjoint;
+ghost use mathlib.Core.List.{[], _∷_};
+ghost use Rattle.cells.specs.Part.{part};
+ghost use Rattle.rules.specs.Members.{isPositive, isConcrete};
+ghost use Rattle.members.specs.Lists.{Few, Lists, Makes, Tests, Asks, Refuses, Contains, KeepsIf, anyOfKind, ofKind, sift, Soles, Grows, CopiedInto, Joined, AsListed, WithLast, Drops, Concrete};
 
 // The first count cells of at; a count above 128 says that there are more than fit.
 pub struct Members {
@@ -35,14 +39,18 @@ pub enum Part {
     Refused(u32),
 }
 
-pub fn none() -> Members {
+pub fn none() -> Members
+    ensures { λ r. ⌜ Few r [] ⌝ }
+{
     Members {
         count: 0,
         at: [0u32; 128],
     }
 }
 
-pub fn refused(k: u32) -> Listed {
+pub fn refused(k: u32) -> Listed
+    ensures { λ r. ⌜ Refuses k r ⌝ }
+{
     let m = none();
     Listed {
         flow: Flow::Refused(k),
@@ -51,7 +59,9 @@ pub fn refused(k: u32) -> Listed {
 }
 
 // The n cells held from h on; a count above 128 where they do not fit.
-pub fn held(s: &[u32], h: u32, n: u32) -> Members {
+pub fn held(s: &[u32], h: u32, n: u32) -> Members
+    ensures { λ r. ⌜ Lists r (part (now (s .entry)) h n) ⌝ }
+{
     let mut out = [0u32; 128];
     let mut i = 0;
     while i < n {
@@ -62,7 +72,9 @@ pub fn held(s: &[u32], h: u32, n: u32) -> Members {
 }
 
 // Whether x is among the first n cells of s.
-pub fn contains(s: &[u32], n: u32, x: u32) -> bool {
+pub fn contains(s: &[u32], n: u32, x: u32) -> bool
+    ensures { λ r. ⌜ Contains (now (s .entry)) n x r ⌝ }
+{
     let mut i = 0;
     while i < n {
         if at(s, i) == x {
@@ -74,7 +86,9 @@ pub fn contains(s: &[u32], n: u32, x: u32) -> bool {
 }
 
 // x put behind the first k cells of out, if it is to be kept; how many there are then.
-pub fn keep_if(out: &mut [u32], k: u32, x: u32, kept: bool) -> u32 {
+pub fn keep_if(out: &mut [u32], k: u32, x: u32, kept: bool) -> u32
+    ensures { λ r. ⌜ KeepsIf (now (out .entry)) k x kept (now (out .exit)) r ⌝ }
+{
     if !kept {
         return k;
     }
@@ -82,7 +96,9 @@ pub fn keep_if(out: &mut [u32], k: u32, x: u32, kept: bool) -> u32 {
     add(k, 1)
 }
 
-pub fn any_of_kind(starts: &[u32], words: &[u32], m: Members, kind: u32) -> bool {
+pub fn any_of_kind(starts: &[u32], words: &[u32], m: Members, kind: u32) -> bool
+    ensures { λ r. ⌜ Tests (anyOfKind kind) (now (starts .entry)) (now (words .entry)) m r ⌝ }
+{
     let ms = m.at;
     let n = m.count;
     let mut i = 0;
@@ -96,17 +112,32 @@ pub fn any_of_kind(starts: &[u32], words: &[u32], m: Members, kind: u32) -> bool
 }
 
 // Neither a Neg nor a TyVar, Bottom or Top.
-pub fn is_positive(starts: &[u32], words: &[u32], x: u32) -> bool {
+pub fn is_positive(starts: &[u32], words: &[u32], x: u32) -> bool
+    ensures { λ r. ⌜ Asks isPositive (now (starts .entry)) (now (words .entry)) x r ⌝ }
+{
     let k = arena::kind(starts, words, x);
-    k != OutputTy::NEG && k != OutputTy::TY_VAR && k != OutputTy::BOTTOM && k != OutputTy::TOP
+    if k == OutputTy::NEG {
+        return false;
+    }
+    if k == OutputTy::TY_VAR {
+        return false;
+    }
+    if k == OutputTy::BOTTOM {
+        return false;
+    }
+    k != OutputTy::TOP
 }
 
-pub fn is_concrete(starts: &[u32], words: &[u32], x: u32) -> bool {
+pub fn is_concrete(starts: &[u32], words: &[u32], x: u32) -> bool
+    ensures { λ r. ⌜ Asks isConcrete (now (starts .entry)) (now (words .entry)) x r ⌝ }
+{
     disjoint::is_constructor(arena::kind(starts, words, x))
 }
 
 // Nothing of nothing, a sole member itself, more as one stored node of that kind.
-pub fn sole(starts: &mut [u32], words: &mut [u32], q: Pass, kind: u32, m: Members) -> Part {
+pub fn sole(starts: &mut [u32], words: &mut [u32], q: Pass, kind: u32, m: Members) -> Part
+    ensures { λ r. ⌜ Soles kind (now (starts .entry)) (now (words .entry)) q m (now (starts .exit)) (now (words .exit)) r ⌝ }
+{
     let ms = m.at;
     let n = m.count;
     if n == 0 {
@@ -128,7 +159,9 @@ pub enum Grown {
 }
 
 // What is left of a member put behind the first k cells of out.
-pub fn grow(out: &mut [u32], k: u32, p: Part) -> Grown {
+pub fn grow(out: &mut [u32], k: u32, p: Part) -> Grown
+    ensures { λ r. ⌜ Grows (now (out .entry)) k p (now (out .exit)) r ⌝ }
+{
     match p {
         Part::Nothing(q) => Grown::On(k, q),
         Part::One(x, q) => {
@@ -140,7 +173,9 @@ pub fn grow(out: &mut [u32], k: u32, p: Part) -> Grown {
 }
 
 // The members put behind the first k cells of out; how many there are then.
-fn copy_into(out: &mut [u32], k: u32, m: Members) -> u32 {
+fn copy_into(out: &mut [u32], k: u32, m: Members) -> u32
+    ensures { λ r. ⌜ CopiedInto (now (out .entry)) k m (now (out .exit)) r ⌝ }
+{
     let ms = m.at;
     let n = m.count;
     let mut i = 0;
@@ -152,20 +187,26 @@ fn copy_into(out: &mut [u32], k: u32, m: Members) -> u32 {
 }
 
 // a followed by b; a count above 128 where they do not fit.
-pub fn joined(a: Members, b: Members) -> Members {
+pub fn joined(a: Members, b: Members) -> Members
+    ensures { λ r. ⌜ Joined a b r ⌝ }
+{
     let mut out = [0u32; 128];
     let k = copy_into(&mut out, 0, a);
     let n = copy_into(&mut out, k, b);
     Members { count: n, at: out }
 }
 
-pub fn one(x: u32) -> Members {
+pub fn one(x: u32) -> Members
+    ensures { λ r. ⌜ Few r (x ∷ []) ⌝ }
+{
     let mut ms = [0u32; 128];
     ms[0] = x;
     Members { count: 1, at: ms }
 }
 
-pub fn as_listed(p: Part) -> Listed {
+pub fn as_listed(p: Part) -> Listed
+    ensures { λ r. ⌜ AsListed p r ⌝ }
+{
     match p {
         Part::Nothing(q) => {
             let m = none();
@@ -185,8 +226,21 @@ pub fn as_listed(p: Part) -> Listed {
     }
 }
 
+// Whether x is of that kind, or is not.
+fn of_that_kind(starts: &[u32], words: &[u32], kind: u32, wanted: bool, x: u32) -> bool
+    ensures { λ r. ⌜ Asks (ofKind kind wanted) (now (starts .entry)) (now (words .entry)) x r ⌝ }
+{
+    let hit = arena::is(starts, words, kind, x);
+    if wanted {
+        return hit;
+    }
+    !hit
+}
+
 // The members that are of that kind, or those that are not.
-pub fn of_kind(starts: &[u32], words: &[u32], m: Members, kind: u32, wanted: bool) -> Members {
+pub fn of_kind(starts: &[u32], words: &[u32], m: Members, kind: u32, wanted: bool) -> Members
+    ensures { λ r. ⌜ Makes (sift (ofKind kind wanted)) (now (starts .entry)) (now (words .entry)) m r ⌝ }
+{
     let ms = m.at;
     let n = m.count;
     let mut out = [0u32; 128];
@@ -194,14 +248,16 @@ pub fn of_kind(starts: &[u32], words: &[u32], m: Members, kind: u32, wanted: boo
     let mut i = 0;
     while i < n {
         let x = at(&ms, i);
-        k = keep_if(&mut out, k, x, arena::is(starts, words, kind, x) == wanted);
+        k = keep_if(&mut out, k, x, of_that_kind(starts, words, kind, wanted, x));
         i += 1;
     }
     Members { count: k, at: out }
 }
 
 // The members and a node behind them.
-pub fn with_last(m: Members, g: Given) -> Listed {
+pub fn with_last(m: Members, g: Given) -> Listed
+    ensures { λ r. ⌜ WithLast m g r ⌝ }
+{
     match g {
         Given::Node(x, q) => {
             let all = joined(m, one(x));
@@ -215,17 +271,30 @@ pub fn with_last(m: Members, g: Given) -> Listed {
 }
 
 // should_drop_filler: Bottom, Top, or a TyVar of count or more, or one that is not preserved, as the cells of facts from f on tell.
-fn should_drop_filler(starts: &[u32], words: &[u32], facts: &[u32], f: u32, count: u32, x: u32) -> bool {
+fn should_drop_filler(starts: &[u32], words: &[u32], facts: &[u32], f: u32, count: u32, x: u32) -> bool
+    ensures { λ r. ⌜ Drops (now (facts .entry)) f count (now (starts .entry)) (now (words .entry)) x r ⌝ }
+{
     let k = arena::kind(starts, words, x);
-    if k == OutputTy::TY_VAR {
-        let v = arena::word(starts, words, x, 1);
-        return count <= v || get(facts, place(f, v)) == 0;
+    if k == OutputTy::BOTTOM {
+        return true;
     }
-    k == OutputTy::BOTTOM || k == OutputTy::TOP
+    if k == OutputTy::TOP {
+        return true;
+    }
+    if k != OutputTy::TY_VAR {
+        return false;
+    }
+    let v = arena::word(starts, words, x, 1);
+    if count <= v {
+        return true;
+    }
+    get(facts, place(f, v)) == 0
 }
 
 // The members that are no fillers.
-pub fn concrete(starts: &[u32], words: &[u32], facts: &[u32], f: u32, count: u32, m: Members) -> Members {
+pub fn concrete(starts: &[u32], words: &[u32], facts: &[u32], f: u32, count: u32, m: Members) -> Members
+    ensures { λ r. ⌜ Concrete (now (facts .entry)) f count (now (starts .entry)) (now (words .entry)) m r ⌝ }
+{
     let ms = m.at;
     let n = m.count;
     let mut out = [0u32; 128];

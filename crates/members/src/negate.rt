@@ -8,6 +8,8 @@ use lang_ty::arena;
 use lang_ty::arena::Given;
 use lang_ty::arena::OutputTy;
 use lang_ty::arena::Pass;
+ghost use mathlib.Core.Path.{_≡_};
+ghost use Rattle.members.specs.Intersections.{counting, Counted, Entered, Turns, StoresNegation, Negates, NegatesOutput};
 
 // The cells of the working slice in which a negation counts nodes and their cells: it can be thousands of levels deep, and a level keeps
 // as little as it can.
@@ -23,7 +25,9 @@ enum Negated {
     Refused(u32),
 }
 
-fn counted(held: &[u32]) -> Pass {
+fn counted(held: &[u32]) -> Pass
+    ensures { λ r. ⌜ Counted (now (held .entry)) r ⌝ }
+{
     Pass {
         nodes: at(held, Counters::NODES),
         cells: at(held, Counters::CELLS),
@@ -33,13 +37,17 @@ fn counted(held: &[u32]) -> Pass {
     }
 }
 
-fn count(held: &mut [u32], q: Pass) {
+fn count(held: &mut [u32], q: Pass)
+    ensures { λ _. ⌜ now (held .exit) ≡ counting (now (held .entry)) q ⌝ }
+{
     set(held, Counters::NODES, q.nodes);
     set(held, Counters::CELLS, q.cells);
 }
 
 // The node that was stored, once it is counted.
-fn stored(held: &mut [u32], g: Given) -> Negated {
+fn stored(held: &mut [u32], g: Given) -> Negated
+    ensures { λ r. ⌜ Entered (now (held .entry)) (now (held .exit)) g r ⌝ }
+{
     match g {
         Given::Node(x, q) => {
             count(held, q);
@@ -50,7 +58,9 @@ fn stored(held: &mut [u32], g: Given) -> Negated {
 }
 
 // The kind of node that the negations of the members of one of that kind make; any other kind turns into a Neg.
-fn turned(kind: u32) -> u32 {
+fn turned(kind: u32) -> u32
+    ensures { λ r. ⌜ Turns kind r ⌝ }
+{
     if kind == OutputTy::UNION {
         return OutputTy::INTERSECTION;
     }
@@ -58,7 +68,9 @@ fn turned(kind: u32) -> u32 {
 }
 
 // The Neg of node x, or the node of the n negations held from h on.
-fn store_negation(starts: &mut [u32], words: &mut [u32], held: &mut [u32], h: u32, x: u32, n: u32) -> Negated {
+fn store_negation(starts: &mut [u32], words: &mut [u32], held: &mut [u32], h: u32, x: u32, n: u32) -> Negated
+    ensures { λ r. ⌜ StoresNegation (now (starts .entry)) (now (words .entry)) (now (held .entry)) h x n (now (starts .exit)) (now (words .exit)) (now (held .exit)) r ⌝ }
+{
     let kind = turned(arena::kind(starts, words, x));
     let q = counted(held);
     if kind == OutputTy::NEG {
@@ -70,7 +82,9 @@ fn store_negation(starts: &mut [u32], words: &mut [u32], held: &mut [u32], h: u3
 
 // The negation of node x: a Neg comes off, a union or an intersection turns over, anything else is wrapped. The negations of its members,
 // which have smaller numbers, are held from h on.
-fn negate(starts: &mut [u32], words: &mut [u32], held: &mut [u32], h: u32, x: u32) -> Negated {
+fn negate(starts: &mut [u32], words: &mut [u32], held: &mut [u32], h: u32, x: u32) -> Negated
+    ensures { λ r. ⌜ Negates (now (starts .entry)) (now (words .entry)) (now (held .entry)) h x (now (starts .exit)) (now (words .exit)) (now (held .exit)) r ⌝ }
+{
     if arena::is(starts, words, OutputTy::NEG, x) {
         return Negated::Node(arena::word(starts, words, x, 1));
     }
@@ -94,12 +108,13 @@ fn negate(starts: &mut [u32], words: &mut [u32], held: &mut [u32], h: u32, x: u3
             }
         }
     }
-    let n = arena::count(starts, words, x);
-    store_negation(starts, words, held, h, x, n)
+    store_negation(starts, words, held, h, x, i)
 }
 
 // negate_output_ty
-pub fn negate_output_ty(starts: &mut [u32], words: &mut [u32], held: &mut [u32], h: u32, q: Pass, x: u32) -> Given {
+pub fn negate_output_ty(starts: &mut [u32], words: &mut [u32], held: &mut [u32], h: u32, q: Pass, x: u32) -> Given
+    ensures { λ r. ⌜ NegatesOutput (now (starts .entry)) (now (words .entry)) (now (held .entry)) h q x (now (starts .exit)) (now (words .exit)) (now (held .exit)) r ⌝ }
+{
     count(held, q);
     match negate(starts, words, held, h, x) {
         Negated::Node(y) => {

@@ -9,13 +9,29 @@ use lang_ty::arena;
 use lang_ty::arena::OutputTy;
 use lang_ty::attrset;
 use lang_ty::disjoint;
+ghost use Rattle.rules.specs.Members.{remove-tautological-pairs};
+ghost use Rattle.members.specs.Lists.{Makes, Tests, Asks};
+ghost use Rattle.members.specs.Unions.{negates, hasNegation, Cancels, Covered, FieldsCover, DynCovers, Subsumes};
 
-// Whether the Neg of x is among the first n cells of s.
-fn has_negation(starts: &[u32], words: &[u32], s: &[u32], n: u32, x: u32) -> bool {
+// Whether node m is the Neg of x.
+fn is_negation(starts: &[u32], words: &[u32], m: u32, x: u32) -> bool
+    ensures { λ r. ⌜ Asks (negates x) (now (starts .entry)) (now (words .entry)) m r ⌝ }
+{
+    if !arena::is(starts, words, OutputTy::NEG, m) {
+        return false;
+    }
+    arena::word(starts, words, m, 1) == x
+}
+
+// Whether the Neg of x is a member.
+fn has_negation(starts: &[u32], words: &[u32], m: Members, x: u32) -> bool
+    ensures { λ r. ⌜ Tests (hasNegation x) (now (starts .entry)) (now (words .entry)) m r ⌝ }
+{
+    let ms = m.at;
+    let n = m.count;
     let mut i = 0;
     while i < n {
-        let m = at(s, i);
-        if arena::is(starts, words, OutputTy::NEG, m) && arena::word(starts, words, m, 1) == x {
+        if is_negation(starts, words, at(&ms, i), x) {
             return true;
         }
         i += 1;
@@ -24,16 +40,28 @@ fn has_negation(starts: &[u32], words: &[u32], s: &[u32], n: u32, x: u32) -> boo
 }
 
 // x is one half of a pair: a positive whose negation is a member, or the negation of a positive member.
-fn is_cancelled(starts: &[u32], words: &[u32], s: &[u32], n: u32, x: u32) -> bool {
+fn is_cancelled(starts: &[u32], words: &[u32], m: Members, x: u32) -> bool
+    ensures { λ r. ⌜ Cancels (now (starts .entry)) (now (words .entry)) m x r ⌝ }
+{
+    let ms = m.at;
+    let n = m.count;
     if arena::is(starts, words, OutputTy::NEG, x) {
         let inner = arena::word(starts, words, x, 1);
-        return is_positive(starts, words, inner) && contains(s, n, inner);
+        if !is_positive(starts, words, inner) {
+            return false;
+        }
+        return contains(&ms, n, inner);
     }
-    is_positive(starts, words, x) && has_negation(starts, words, s, n, x)
+    if !is_positive(starts, words, x) {
+        return false;
+    }
+    has_negation(starts, words, m, x)
 }
 
 // remove_tautological_pairs
-pub fn remove_tautological_pairs(starts: &[u32], words: &[u32], m: Members) -> Members {
+pub fn remove_tautological_pairs(starts: &[u32], words: &[u32], m: Members) -> Members
+    ensures { λ r. ⌜ Makes remove-tautological-pairs (now (starts .entry)) (now (words .entry)) m r ⌝ }
+{
     let ms = m.at;
     let n = m.count;
     let mut out = [0u32; 128];
@@ -41,19 +69,30 @@ pub fn remove_tautological_pairs(starts: &[u32], words: &[u32], m: Members) -> M
     let mut i = 0;
     while i < n {
         let x = at(&ms, i);
-        k = keep_if(&mut out, k, x, !is_cancelled(starts, words, &ms, n, x));
+        k = keep_if(&mut out, k, x, !is_cancelled(starts, words, m, x));
         i += 1;
     }
     Members { count: k, at: out }
 }
 
+// The field k of the set at a is not required, or is one of the set at b.
+fn is_covered(words: &[u32], a: u32, b: u32, k: u32) -> bool
+    ensures { λ r. ⌜ Covered (now (words .entry)) a b k r ⌝ }
+{
+    if attrset::has_optional(words, a, k) {
+        return true;
+    }
+    attrset::has_field(words, b, k)
+}
+
 // Each required field of the set at a is a field of the one at b.
-fn fields_cover(words: &[u32], a: u32, b: u32) -> bool {
+fn fields_cover(words: &[u32], a: u32, b: u32) -> bool
+    ensures { λ r. ⌜ FieldsCover (now (words .entry)) a b r ⌝ }
+{
     let n = attrset::fields(words, a);
     let mut i = 0;
     while i < n {
-        let k = attrset::key(words, a, i);
-        if !attrset::has_optional(words, a, k) && !attrset::has_field(words, b, k) {
+        if !is_covered(words, a, b, attrset::key(words, a, i)) {
             return false;
         }
         i += 1;
@@ -62,24 +101,37 @@ fn fields_cover(words: &[u32], a: u32, b: u32) -> bool {
 }
 
 // The set at a has no dyn, or that of the one at b.
-fn dyn_covers(words: &[u32], a: u32, b: u32) -> bool {
+fn dyn_covers(words: &[u32], a: u32, b: u32) -> bool
+    ensures { λ r. ⌜ DynCovers (now (words .entry)) a b r ⌝ }
+{
     if attrset::dyns(words, a) == 0 {
         return true;
     }
-    attrset::dyns(words, b) != 0 && attrset::dyn_type(words, a) == attrset::dyn_type(words, b)
+    if attrset::dyns(words, b) == 0 {
+        return false;
+    }
+    attrset::dyn_type(words, a) == attrset::dyn_type(words, b)
 }
 
 // Node x is an open set that takes up node y, an open set.
-fn subsumes(starts: &[u32], words: &[u32], x: u32, y: u32) -> bool {
+fn subsumes(starts: &[u32], words: &[u32], x: u32, y: u32) -> bool
+    ensures { λ r. ⌜ Subsumes (now (starts .entry)) (now (words .entry)) x y r ⌝ }
+{
     if !arena::is(starts, words, OutputTy::ATTR_SET, y) {
         return false;
     }
     let a = disjoint::set_place(starts, x);
     let b = disjoint::set_place(starts, y);
-    if attrset::open(words, a) != 1 || attrset::open(words, b) != 1 {
+    if attrset::open(words, a) != 1 {
         return false;
     }
-    dyn_covers(words, a, b) && fields_cover(words, a, b)
+    if attrset::open(words, b) != 1 {
+        return false;
+    }
+    if !dyn_covers(words, a, b) {
+        return false;
+    }
+    fields_cover(words, a, b)
 }
 
 fn mark_if(gone: &mut [u32], j: u32, taken: bool) {

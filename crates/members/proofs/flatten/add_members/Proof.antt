@@ -1,15 +1,25 @@
+use Rattle.members.proofs.Flattening.{Adding, adding-start, adding-more, adding-done}
 use borrow.Author.Needs.{needs}
-use Prim.Native.Nat.{_-_, _≤_}
+use Prim.Native.Nat.{_-_}
 use mathlib.Core.Path.{_≡_}
 use lib.ListN.{length}
 use Rattle.members.proofs.flatten.add_members.Statement.{statement}
 use Rattle.members.proofs.flatten.add_members.Tie as tie
 
 abbrev Inv-loop : tie.InvT-loop
-Inv-loop starts words out₀ k x n got₀ i₀ out got i = (i ≤ n) × (length out ≡ length out₀)
+Inv-loop starts words out₀ k x n got₀ i₀ out got i = Adding starts words out₀ k x n out got i × (length out ≡ length out₀)
 
 abbrev μ-loop : tie.MeasureT-loop
 μ-loop starts words out₀ k x n got₀ i₀ out got i = n - i
+
+loop-holds : tie.Need-loop-holds Inv-loop μ-loop
+loop-holds c = (adding-start, search needs)
+
+loop-again : tie.Need-loop-again Inv-loop μ-loop
+loop-again c = (adding-more (c .before .before .before .before .before .before .before .count .ensures) (c .before .before .before .before .before .before .loop .inv .0) (c .before .before .before .before .before .loop-test .taken) (c .before .before .before .member .ensures) (c .before .before .add-new .ensures), search needs)
+
+returns : tie.Need-returns Inv-loop μ-loop
+returns c = adding-done (c .before .before .count .ensures) (c .before .loop .inv .0) (c .loop-test .left)
 
 pub add-members-spec : {M : Type 1} → statement M
 add-members-spec =
@@ -18,11 +28,11 @@ add-members-spec =
     Inv-loop
     μ-loop
     (λ c _. search needs)
-    (λ c. search needs)
+    loop-holds
     (λ c _. search needs)
     (λ c _. search needs)
     (λ c. search needs)
     (λ c. search needs)
+    loop-again
     (λ c. search needs)
-    (λ c. search needs)
-    (λ c. search needs))
+    returns)

@@ -1,15 +1,24 @@
+use native.Mathlib.Omega.{arith}
+use Rattle.members.proofs.Gathering.{Filling, filling-start, filling-more, copied-is}
 use borrow.Author.Needs.{needs}
-use Prim.Native.Nat.{_-_, _≤_}
-use mathlib.Core.Path.{_≡_}
-use lib.ListN.{length}
+use Prim.Native.Nat.{_-_}
 use Rattle.members.proofs.lists.copy_into.Statement.{statement}
 use Rattle.members.proofs.lists.copy_into.Tie as tie
 
 abbrev Inv-loop : tie.InvT-loop
-Inv-loop out₀ k ms n i₀ out i = (i ≤ n) × (length out ≡ length out₀)
+Inv-loop out₀ k ms n i₀ out i = Filling k ms 0 n out₀ out i
 
 abbrev μ-loop : tie.MeasureT-loop
 μ-loop out₀ k ms n i₀ out i = n - i
+
+loop-holds : tie.Need-loop-holds Inv-loop μ-loop
+loop-holds c = search filling-start
+
+loop-again : tie.Need-loop-again Inv-loop μ-loop
+loop-again c = filling-more (c .before .before .before .before .before .before .before .before .loop .inv) (c .before .before .before .before .before .before .before .loop-test .taken) (c .before .before .before .before .before .place .ensures) (omega arith) (c .before .before .before .at .ensures) (c .before .before .put .ensures)
+
+returns : tie.Need-returns Inv-loop μ-loop
+returns c = copied-is (c .before .before .loop .inv) (c .before .loop-test .left) (c .add .ensures)
 
 pub copy-into-spec : {M : Type 1} → statement M
 copy-into-spec =
@@ -17,14 +26,14 @@ copy-into-spec =
     (tie.spec
     Inv-loop
     μ-loop
-    (λ c. search needs)
+    loop-holds
     (λ c _. search needs)
     (λ c. search needs)
     (λ c _. search needs)
     (λ c _. search needs)
     (λ c. search needs)
     (λ c. search needs)
-    (λ c. search needs)
+    loop-again
     (λ c _. search needs)
     (λ c. search needs)
-    (λ c. search needs))
+    returns)

@@ -1,16 +1,24 @@
+use Rattle.members.proofs.Gathering.{Filling, filling-start, filling-more, held-is}
 use native.Mathlib.Omega.{arith}
 use borrow.Author.Needs.{needs}
-use mathlib.Core.Path.{_≡_}
-use lib.ListN.{length}
-use Prim.Native.Nat.{_-_, _≤_}
+use Prim.Native.Nat.{_-_}
 use Rattle.members.proofs.lists.held.Statement.{statement}
 use Rattle.members.proofs.lists.held.Tie as tie
 
 abbrev Inv-loop : tie.InvT-loop
-Inv-loop s h n out₀ i₀ out i = (i ≤ n) × (n ≤ 4294967295) × (length out ≡ length out₀)
+Inv-loop s h n out₀ i₀ out i = Filling 0 s h n out₀ out i
 
 abbrev μ-loop : tie.MeasureT-loop
 μ-loop s h n out₀ i₀ out i = n - i
+
+loop-holds : tie.Need-loop-holds Inv-loop μ-loop
+loop-holds c = search filling-start
+
+loop-again : tie.Need-loop-again Inv-loop μ-loop
+loop-again c = filling-more (c .before .before .before .before .before .before .loop .inv) (c .before .before .before .before .before .loop-test .taken) (omega arith) (c .before .before .before .place .ensures) (c .before .before .get .ensures) (c .before .set .ensures)
+
+returns : tie.Need-returns Inv-loop μ-loop
+returns c = held-is (c .before .loop .inv) (c .loop-test .left)
 
 pub held-spec : {M : Type 1} → statement M
 held-spec =
@@ -18,12 +26,12 @@ held-spec =
     (tie.spec
     Inv-loop
     μ-loop
-    (λ c. search needs)
+    loop-holds
     (λ c. search needs)
     (λ c _. search needs)
     (λ c _. search needs)
     (λ c _. search needs)
     (λ c. search needs)
     (λ c. search needs)
-    (λ c. search needs)
-    (λ c. search needs))
+    loop-again
+    returns)

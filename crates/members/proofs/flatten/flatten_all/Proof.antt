@@ -1,0 +1,38 @@
+use Rattle.members.proofs.Flattening.{Flattening, flattening-start, flattening-more, flattening-done}
+use lib.ListN.{length}
+use mathlib.Core.Path.{_≡_}
+use Prim.Native.Nat.{_-_}
+use borrow.Author.Needs.{needs}
+use Rattle.members.proofs.flatten.flatten_all.Statement.{statement}
+use Rattle.members.proofs.flatten.flatten_all.Tie as tie
+
+abbrev Inv-loop : tie.InvT-loop
+Inv-loop starts words kind ms n out₀ k₀ i₀ out k i = Flattening kind starts words ms n out k i × (length out ≡ length out₀)
+
+abbrev μ-loop : tie.MeasureT-loop
+μ-loop starts words kind ms n out₀ k₀ i₀ out k i = n - i
+
+loop-holds : tie.Need-loop-holds Inv-loop μ-loop
+loop-holds c = (flattening-start, search needs)
+
+loop-again : tie.Need-loop-again Inv-loop μ-loop
+loop-again c = (flattening-more (c .before .before .before .before .before .before .loop .inv .0) (c .before .before .before .before .before .loop-test .taken) (c .before .before .before .at .ensures) (c .before .flatten-one .ensures), search needs)
+
+returns : tie.Need-returns Inv-loop μ-loop
+returns c = flattening-done (c .before .loop .inv .0) (c .loop-test .left)
+
+pub flatten-all-spec : {M : Type 1} → statement M
+flatten-all-spec =
+    tie.close
+    (tie.spec
+    Inv-loop
+    μ-loop
+    loop-holds
+    (λ c. search needs)
+    (λ c _. search needs)
+    (λ c. search needs)
+    (λ c _. search needs)
+    (λ c. search needs)
+    (λ c. search needs)
+    loop-again
+    returns)

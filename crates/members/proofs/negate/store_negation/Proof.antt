@@ -1,0 +1,30 @@
+use Rattle.members.proofs.Negating.{negation-wraps, negation-turns}
+use borrow.Author.Needs.{needs}
+use Rattle.members.proofs.negate.store_negation.Statement.{statement}
+use Rattle.members.proofs.negate.store_negation.Tie as tie
+
+returns : tie.Need-returns
+returns c = search negation-wraps
+
+returns-2 : tie.Need-returns-2
+returns-2 c = search negation-turns
+
+pub store-negation-spec : {M : Type 1} → statement M
+store-negation-spec =
+    tie.close
+    (tie.spec
+    (λ c _. search needs)
+    (λ c _. search needs)
+    (λ c _. search needs)
+    (λ c _. search needs)
+    (λ c _. search needs)
+    (λ c. search needs)
+    (λ c. search needs)
+    (λ c. search needs)
+    returns
+    (λ c _. search needs)
+    (λ c _. search needs)
+    (λ c. search needs)
+    (λ c. search needs)
+    (λ c. search needs)
+    returns-2)

@@ -1,0 +1,75 @@
+-- Flattening, and what is done to the members of a union: what the functions of flatten.rt and unions.rt ensure.
+use mathlib.Core.Path.{_≡_}
+use mathlib.Core.Bool.{Bool, _||_}
+use Prim.Native.Nat.{ℕ, _<_}
+use mathlib.Core.List.{List, []}
+use lib.ListN.{length}
+use Rattle.cells.specs.Part.{Under}
+use Rattle.rules.specs.Plain.{any, all, filter, contains, addNew}
+use Rattle.rules.specs.Table.{Attr, fieldKeys}
+use Rattle.rules.specs.Types.{Node, AttrSet, nodeAt, asAttr}
+use Rattle.rules.specs.Members.{membersAt, addAll, flattenOne, flattenInto, innerOf, negatedInners, isPositive, cancelled, sameDyn, subsumesNode}
+use Rattle.lang_ty.specs.declared.arena.Pass.{Pass}
+use Rattle.lang_ty.specs.Nodes.{Arena}
+use Rattle.lang_ty.specs.Sets.{SetAt}
+use Rattle.members.specs.declared.lists.Members.{Members}
+use Rattle.members.specs.Lists.{Lists, Taken}
+
+-- the first k of the 128 cells out are xs; a k above 128 says that there are more than fit
+pub record Collected (out : List ℕ) (k : ℕ) (xs : List ℕ) : Type 0 where
+  pub room : length out ≡ 128
+  pub list : Lists (record { count = k; at = out }) xs
+
+pub record AddsNew (out : List ℕ) (k x : ℕ) (out′ : List ℕ) (r : ℕ) : Type 0 where
+  pub is : {xs : List ℕ} → Collected out k xs → Collected out′ r (addNew xs x)
+
+pub record AddsMembers (s w out : List ℕ) (k x : ℕ) (out′ : List ℕ) (r : ℕ) : Type 0 where
+  pub is : {q : Pass} {ns : List Node} {xs : List ℕ} → Arena s w q ns → x < length ns → Collected out k xs → Collected out′ r (addAll xs (membersAt ns x))
+
+pub record FlattensOne (kind : ℕ) (s w out : List ℕ) (k x : ℕ) (out′ : List ℕ) (r : ℕ) : Type 0 where
+  pub is : {q : Pass} {ns : List Node} {xs : List ℕ} → Arena s w q ns → x < length ns → Collected out k xs → Collected out′ r (flattenOne kind ns xs x)
+
+-- a list that may be more than fit, of nodes below k
+pub record Listing (m : Members) (xs : List ℕ) (k : ℕ) : Type 0 where
+  pub list : Lists m xs
+  pub below : Under k xs
+
+-- r is what f makes of the members of m, where that fits
+pub record Spreads (f : List Node → List ℕ → List ℕ) (s w : List ℕ) (m r : Members) : Type 0 where
+  pub is : {q : Pass} {ns : List Node} {xs : List ℕ} → Arena s w q ns → Taken m xs (length ns) → Listing r (f ns xs) (length ns)
+
+-- all members, the nested ones opened
+abbrev pub flattenAll : ℕ → List Node → List ℕ → List ℕ
+flattenAll k ns xs = flattenInto k ns [] xs
+
+-- m is the negation of x
+abbrev pub negates : ℕ → List Node → ℕ → Bool
+negates x ns m = contains (innerOf (nodeAt ns m)) x
+
+abbrev pub hasNegation : ℕ → List Node → List ℕ → Bool
+hasNegation x ns xs = any (negates x ns) xs
+
+-- x is one half of a pair among xs
+abbrev pub halved : List Node → List ℕ → ℕ → Bool
+halved ns xs x = cancelled ns (filter (isPositive ns) xs) (negatedInners ns xs) x
+
+pub record Cancels (s w : List ℕ) (m : Members) (x : ℕ) (r : Bool) : Type 0 where
+  pub is : {q : Pass} {ns : List Node} {xs : List ℕ} → Arena s w q ns → Taken m xs (length ns) → x < length ns → r ≡ halved ns xs x
+
+-- field k of the set t is not required, or is one of u's too
+abbrev pub covers : Attr → Attr → ℕ → Bool
+covers t u k = contains (t .optional) k || contains (fieldKeys (u .fields)) k
+
+pub record Covered (w : List ℕ) (a b k : ℕ) (r : Bool) : Type 0 where
+  pub is : {t u : Attr} → SetAt w a t → SetAt w b u → r ≡ covers t u k
+
+pub record FieldsCover (w : List ℕ) (a b : ℕ) (r : Bool) : Type 0 where
+  pub is : {t u : Attr} → SetAt w a t → SetAt w b u → r ≡ all (covers t u) (fieldKeys (t .fields))
+
+-- the set at a has no dyn, or that of the one at b
+pub record DynCovers (w : List ℕ) (a b : ℕ) (r : Bool) : Type 0 where
+  pub is : {t u : Attr} → SetAt w a t → SetAt w b u → r ≡ sameDyn (t .dyn) (u .dyn)
+
+-- node x, a set, takes up node y
+pub record Subsumes (s w : List ℕ) (x y : ℕ) (r : Bool) : Type 0 where
+  pub is : {q : Pass} {ns : List Node} {t : Attr} → Arena s w q ns → x < length ns → y < length ns → nodeAt ns x ≡ AttrSet t → r ≡ subsumesNode t (asAttr (nodeAt ns y))
