@@ -14,7 +14,7 @@ use crate::scratch::Lent;
 use crate::{edits, join, kept, lines, watch};
 
 /// Damaged inputs for each pair.
-const DAMAGED: u64 = 3;
+const DAMAGED: u64 = 4;
 /// One pair in so many is of tables put together from several.
 const JOINED: u64 = 4;
 /// Room for every listing here.
