@@ -7,10 +7,10 @@ use cells::clear;
 use cells::get;
 use cells::place;
 use cells::put;
-use lang_check::storage;
-use lang_check::storage::Entry;
+use entries::storage;
+use entries::storage::Entry;
 use lang_ty::attrset;
-use places::given::Canon;
+use entries::given::Canon;
 
 // What lies where in the work. A link goes from an entry to an id that stands in it. Links are numbered from 1, so 0 is none: HEAD has the
 // last link to each entry, NEXT the link to the same entry before it, FROM the entry that it goes from. QUEUE has the entries marked.

@@ -91,6 +91,7 @@ stands-none {st} {s} {w} {q} none cells ops sorted bailed nodes no-cells first p
         ends = λ i lt. absurd (omega arith);
         top = omega arith;
         below = λ i lt. absurd (omega arith);
+        slim = λ i lt. absurd (omega arith);
         places = places;
         room = room;
       };

@@ -9,7 +9,7 @@ use Rattle.cells.specs.Part.{cell, Holds, Under}
 use Rattle.cells.specs.Sum.{Sum}
 use Rattle.cells.proofs.Holding.{holds-place}
 use Rattle.cells.proofs.Sums.{sum-low, sum-most}
-use Rattle.rules.specs.Types.{State, Out, ok, Node, encode, nodeAt, children, find, grown, keep, at, nowhere}
+use Rattle.rules.specs.Types.{State, Out, ok, Node, encode, nodeAt, members, children, find, grown, keep, at, nowhere}
 use Rattle.rules.proofs.Rows.{row-length}
 use Rattle.rules.proofs.Storing.{by-place, node-before, node-last, rooted-more, hit, keep-full, keep-over, keep-new, store-few}
 use Rattle.lang_ty.specs.declared.arena.Pass.{Pass}
@@ -56,6 +56,9 @@ module _ {s w : List ℕ} {q : Pass} {ns : List Node} {n : Node} {k end count : 
             (omega (arith, ap (λ (m : Node). length (encode m)) (node-last ns n)));
         top = let z : q .nodes + 1 ≡ k = omega arith in let g = ap (cell ended) z ∙ last′ in omega (arith, h .top, row-length n, fits .cells);
         below = rooted-more ns n (record { is = h .below }) (subst (λ (m : ℕ). Under m (children n)) (sym c) (fits .below)) .is;
+        slim = by-place ns n (λ (i : ℕ). length (members (nodeAt (ns ++ (n ∷ [])) i)) ≤ 128)
+            (λ i lt. omega (arith, h .slim i lt, ap (λ (m : Node). length (members m)) (node-before ns n i lt)))
+            (omega (arith, fits .few, ap (λ (m : Node). length (members m)) (node-last ns n)));
         places = omega (arith, length-set s k end, h .places);
         room = h .room;
       }

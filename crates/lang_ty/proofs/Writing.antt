@@ -87,6 +87,7 @@ stands-below {st} {s} {w} {w′} {xs} {q} on h =
         ends = a .ends;
         top = a .top;
         below = a .below;
+        slim = a .slim;
         places = a .places;
         room = omega (arith, h .same-length, a .room);
       };

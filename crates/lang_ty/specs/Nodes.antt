@@ -14,7 +14,7 @@ use Rattle.lang_ty.specs.declared.arena.Given.the-variants.{Node, Refuse
 use Rattle.lang_ty.specs.declared.arena.Found.{Found}
 use Rattle.lang_ty.specs.declared.arena.Found.the-variants.{At, Nowhere}
 
--- the slices hold these nodes, "children first". A row has at most 6 words besides its cells, so that a row of 8,192 words has room
+-- the slices hold these nodes, "children first", none with more than 128 members. A row has at most 6 words besides its cells, so that a row of 8,192 words has room
 -- behind the last
 pub record Arena (s w : List ℕ) (q : Pass) (ns : List rules.Node) : Type 0 where
   pub count : length ns ≡ q .nodes
@@ -24,6 +24,7 @@ pub record Arena (s w : List ℕ) (q : Pass) (ns : List rules.Node) : Type 0 whe
   pub ends : (i : ℕ) → i < length ns → cell s (suc i) ≡ cell s i + length (encode (nodeAt ns i))
   pub top : cell s (q .nodes) ≤ 6 * q .nodes + q .cells
   pub below : (i : ℕ) → i < length ns → Under i (children (nodeAt ns i))
+  pub slim : (i : ℕ) → i < length ns → length (members (nodeAt ns i)) ≤ 128
   pub places : 4097 ≤ length s
   pub room : 49152 ≤ length w
 

@@ -16,7 +16,7 @@ use Rattle.lang_ty.specs.Nodes.{Is}
 use Rattle.lang_ty.specs.Shapes.{SetPlace}
 use Rattle.lang_ty.specs.Sets.{SetAt, Fields, Key, HasField, HasOptional, Dyns, DynType, Open}
 use Rattle.members.specs.Unions.{covers, Covered, FieldsCover, DynCovers, Subsumes}
-use Rattle.members.proofs.Filtering.{all-here, all-more, all-done}
+use Rattle.rules.proofs.Filtering.{all-here, all-more, all-done}
 
 pub covered-optional : {w : List ℕ} {a b k : ℕ} {c : Bool} → HasOptional w a k c → c ≡ true → Covered w a b k true
 covered-optional {k = k} o e = record { is = λ {t} {u} s v. ap (λ (x : Bool). x || contains (fieldKeys (u .fields)) k) (sym e ∙ o .is s) }
@@ -95,7 +95,7 @@ module _ {w : List ℕ} {a b x : ℕ} (m : Dyns w a x) where
         }
 
 -- the ways of `subsumes`: node y is no set, or the tests of two sets decide one after another
-no-attr : (n : Node) → (kindOf n ≡ 4 → ⊥) → asAttr n ≡ none
+pub no-attr : (n : Node) → (kindOf n ≡ 4 → ⊥) → asAttr n ≡ none
 no-attr (TyVar x) h = refl
 no-attr (Primitive c) h = refl
 no-attr (ListOf a) h = refl

@@ -29,16 +29,16 @@ any-turn : (b l r t : Bool) → l ≡ if r (λ _. true) (λ _. t) → if b (λ _
 any-turn true l r t e = refl
 any-turn false l r t e = e
 
-any-both : (p : ℕ → Bool) (xs ys : List ℕ) → any p (xs ++ ys) ≡ if (any p xs) (λ _. true) (λ _. any p ys)
+pub any-both : (p : ℕ → Bool) (xs ys : List ℕ) → any p (xs ++ ys) ≡ if (any p xs) (λ _. true) (λ _. any p ys)
 any-both p [] ys = refl
 any-both p (x ∷ xs) ys = any-turn (p x) (any p (xs ++ ys)) (any p xs) (any p ys) (any-both p xs ys)
 
 -- what the negated members hold, one after another
-inners-any : (ns : List Node) (xs : List ℕ) (x : ℕ) → contains (negatedInners ns xs) x ≡ hasNegation x ns xs
-inners-any ns [] x = refl
-inners-any ns (m ∷ ms) x =
-    any-both (eqb x) (innerOf (nodeAt ns m)) (negatedInners ns ms)
-    ∙ ap (λ (b : Bool). if (negates x ns m) (λ _. true) (λ _. b)) (inners-any ns ms x)
+pub inners-any : (ns : List Node) (xs : List ℕ) (p : ℕ → Bool) → any p (negatedInners ns xs) ≡ any (λ (m : ℕ). any p (innerOf (nodeAt ns m))) xs
+inners-any ns [] p = refl
+inners-any ns (m ∷ ms) p =
+    any-both p (innerOf (nodeAt ns m)) (negatedInners ns ms)
+    ∙ ap (λ (b : Bool). if (any p (innerOf (nodeAt ns m))) (λ _. true) (λ _. b)) (inners-any ns ms p)
 
 -- a member that the test keeps
 module _ (p : ℕ → Bool) (a : ℕ) where
@@ -60,7 +60,7 @@ module _ (p : ℕ → Bool) (a : ℕ) where
     none false = refl
   sift-contains (x ∷ xs) = sift-turn (p x) (eqb a x) x xs refl refl (sift-contains xs)
 
-no-inner : (n : Node) → (kindOf n ≡ 8 → ⊥) → innerOf n ≡ []
+pub no-inner : (n : Node) → (kindOf n ≡ 8 → ⊥) → innerOf n ≡ []
 no-inner (TyVar x) h = refl
 no-inner (Primitive c) h = refl
 no-inner (ListOf a) h = refl
@@ -73,7 +73,7 @@ no-inner (Neg a) h = absurd (h refl)
 no-inner Bottom h = refl
 no-inner Top h = refl
 
-once : (b : Bool) → if b (λ _. true) (λ _. false) ≡ b
+pub once : (b : Bool) → if b (λ _. true) (λ _. false) ≡ b
 once true = refl
 once false = refl
 
@@ -137,7 +137,7 @@ module _ {s w : List ℕ} {x : ℕ} {c : Bool} (a : Is s w 8 x c) where
   module _ {d : Bool} (e : c ≡ false) (p : Asks isPositive s w x d) where
     alone : {q : Pass} {ns : List Node} (xs : List ℕ) → Arena s w q ns → x < length ns → both d (λ _. hasNegation x ns xs) ≡ halved ns xs x
     alone {q} {ns} xs h lt =
-        ap₂ (λ (t u : Bool). both t (λ _. u)) (p .is h lt) (sym (inners-any ns xs x))
+        ap₂ (λ (t u : Bool). both t (λ _. u)) (p .is h lt) (sym (inners-any ns xs (eqb x)))
         ∙ sym (or-false (both (isPositive ns x) (λ _. contains (negatedInners ns xs) x)))
         ∙ sym (ap (λ (l : List ℕ). both (isPositive ns x) (λ _. contains (negatedInners ns xs) x) || any (contains (filter (isPositive ns) xs)) l) (other a h lt e))
 

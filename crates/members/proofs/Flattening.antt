@@ -20,7 +20,7 @@ use Rattle.lang_ty.specs.Nodes.{Arena, Is, Count, Member}
 use Rattle.members.specs.declared.lists.Members.{Members}
 use Rattle.members.specs.Lists.{Few, Lists, Taken, Tests, Contains, anyOfKind}
 use Rattle.members.specs.Unions.{Collected, AddsNew, AddsMembers, FlattensOne, Listing, Spreads, flattenAll}
-use Rattle.members.proofs.Filtering.{under-both, under-most}
+use Rattle.rules.proofs.Filtering.{under-both, under-most}
 use Rattle.members.proofs.Gathering.{listOf, few-lists, few-at, few-below, gathered-more, gathered-few}
 
 -- laws of collecting
@@ -72,7 +72,7 @@ module _ {s w : List ℕ} {q : Pass} {ns : List Node} (h : Arena s w q ns) (kind
   into-under got (x ∷ xs) g u = into-under (flattenOne kind ns got x) xs (one-under (is ns kind x) got x (u .0) g) (u .1)
 
 -- a list of no more than 128, or of more
-by-length : {A : Type 0} (xs : List ℕ) → (length xs ≤ 128 → A) → (128 < length xs → A) → A
+pub by-length : {A : Type 0} (xs : List ℕ) → (length xs ≤ 128 → A) → (128 < length xs → A) → A
 by-length xs f g = ⊎-elim (λ e. f (omega arith)) (λ e. g (omega arith)) (eq-zero-or-pos (length xs - 128))
 
 pub collected-none : Collected (replicate 128 0) 0 []

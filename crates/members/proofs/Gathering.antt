@@ -23,7 +23,7 @@ use Rattle.rules.specs.Run as rules
 use Rattle.rules.proofs.Rows.{node-of, by-kind}
 use Rattle.lang_ty.specs.Shapes.{Constructor}
 use Rattle.lang_ty.proofs.Reading.{word-of}
-use Rattle.members.proofs.Filtering.{kept, filter-take, filter-length, filter-under, under-at, under-both, any-here, any-more, any-done}
+use Rattle.rules.proofs.Filtering.{kept, filter-take, filter-length, filter-under, under-at, under-both, any-here, any-more, any-done}
 use Rattle.lang_ty.specs.declared.arena.Pass.{Pass}
 use Rattle.lang_ty.specs.Nodes.{Arena, Stands, Answers as Stores, Lists as ListNode, Listed as ListedNode, Word, Kind, Is}
 use Rattle.lang_ty.specs.declared.arena.Given.{Given}
@@ -92,7 +92,7 @@ keeps-not {k = k} {x} {b} e = keeps-none k x b e
 pub keeps-one : {out out′ : List ℕ} {k x r : ℕ} {b : Bool} → not b ≡ false → out′ ≡ set out k x → Sum k 1 r → KeepsIf out k x b out′ r
 keeps-one {k = k} {x} {b = b} e f sum = keeps-some k x b e f sum
 
-kept-only : (b : Bool) (x : ℕ) → only b x ≡ kept b x
+pub kept-only : (b : Bool) (x : ℕ) → only b x ≡ kept b x
 kept-only true x = refl
 kept-only false x = refl
 
@@ -281,7 +281,7 @@ joined-is {a} {b} {out} {out′} {k} {n} c d =
     }
 
 -- the ways of `sole`
-taken-list : {m : Members} {xs : List ℕ} {k : ℕ} → Taken m xs k → part (m .at) 0 (m .count) ≡ xs
+pub taken-list : {m : Members} {xs : List ℕ} {k : ℕ} → Taken m xs k → part (m .at) 0 (m .count) ≡ xs
 taken-list {m} t = ap (part (m .at) 0) (t .list .count) ∙ t .list .holds .is
 
 sole-node : {s w : List ℕ} {z : ℕ} {q : Pass} {o : Out ℕ} → Stores o s w (NodeG z q) → PartIs (bind o (λ x. give (x ∷ []))) s w (z ∷ []) q
@@ -399,7 +399,7 @@ listed-one {p} {q} {x} e f =
     }
 
 -- a refusal answers a refusal
-refuses : {k : ℕ} {r : Listed} (o : Out (List ℕ)) (s w : List ℕ) → Refuses k r → o ≡ no k → Answers o s w r
+pub refuses : {k : ℕ} {r : Listed} (o : Out (List ℕ)) (s w : List ℕ) → Refuses k r → o ≡ no k → Answers o s w r
 refuses {k} {r} o s w f e = subst (λ (x : Flow). AnswersFlow o s w (r .members) x) (sym (f .is)) e
 
 pub listed-refused : {p : Part} {k : ℕ} {r : Listed} → p ≡ RefusedP k → Refuses k r → AsListed p r

@@ -18,8 +18,9 @@ use Rattle.lang_ty.proofs.Reading.{word-of}
 use Rattle.members.specs.declared.lists.Members.{Members}
 use Rattle.members.specs.Lists.{Taken, Makes, Tests, Asks}
 use Rattle.members.specs.Intersections.{firstOf, Pairs, Probes, Beside, anyConcrete, overlap, redundant}
-use Rattle.members.proofs.Filtering.{any-here, any-more, any-done}
+use Rattle.rules.proofs.Filtering.{any-here, any-more, any-done}
 use Rattle.members.proofs.Gathering.{few-at, few-below, Tried}
+use Rattle.members.proofs.Cancelling.{no-inner, once}
 use Rattle.members.proofs.Negating.{neg-at}
 
 -- all of those that c says, and none that c says and p does not
@@ -44,23 +45,6 @@ empty-any : (c : ℕ → Bool) (xs : List ℕ) → empty (filter c xs) ≡ not (
 empty-any c [] = refl
 empty-any c (x ∷ xs) = empty-turn c x xs (c x) (empty-any c xs)
 
-any-one : (b : Bool) → b ≡ if b (λ _. true) (λ _. false)
-any-one true = refl
-any-one false = refl
-
-inner-none : (n : Node) → (kindOf n ≡ 8 → ⊥) → innerOf n ≡ []
-inner-none (TyVar a) h = refl
-inner-none (Primitive c) h = refl
-inner-none (ListOf a) h = refl
-inner-none (Lambda a b) h = refl
-inner-none (AttrSet a) h = refl
-inner-none (Union ms) h = refl
-inner-none (Intersection ms) h = refl
-inner-none (Named m a) h = refl
-inner-none (Neg a) h = absurd (h refl)
-inner-none Bottom h = refl
-inner-none Top h = refl
-
 -- `overlaps`
 module _ {s w : List ℕ} (functor : ℕ) {x y : ℕ} {c : Bool} (known : Asks isConcrete s w y c) where
   pub overlaps-not : not c ≡ true → Pairs (overlap functor) s w x y false
@@ -78,26 +62,26 @@ module _ {s w : List ℕ} (functor : ℕ) {x y : ℕ} {c : Bool} (known : Asks i
             ∙ sym (ap (λ (b : Bool). both b (λ _. not (are-output-types-disjoint functor ns y x))) (sym (known .is h ly) ∙ not-false c e))
       }
 
--- a search for a member of which it holds beside x, at member i
-pub record Probing (f : List Node → ℕ → ℕ → Bool) (s w ms : List ℕ) (n x i : ℕ) : Type 0 where
-  pub few : i ≤ n
-  pub is : {q : Pass} {ns : List Node} {xs : List ℕ} → Arena s w q ns → Taken (firstOf n ms) xs (length ns) → x < length ns → any (f ns x) (drop i xs) ≡ any (f ns x) xs
+-- a search, from a place on, for a member of which it holds beside x, at member i
+pub record Probing (f : List Node → ℕ → ℕ → Bool) (s w ms : List ℕ) (from n x i : ℕ) : Type 0 where
+  pub is : {q : Pass} {ns : List Node} {xs : List ℕ} → Arena s w q ns → Taken (firstOf n ms) xs (length ns) → x < length ns
+      → any (f ns x) (drop i xs) ≡ any (f ns x) (drop from xs)
 
-module _ {f : List Node → ℕ → ℕ → Bool} {s w ms : List ℕ} {n x : ℕ} where
-  pub probing-start : Probing f s w ms n x 0
-  probing-start = record { few = omega arith; is = λ h t l. refl }
+module _ {f : List Node → ℕ → ℕ → Bool} {s w ms : List ℕ} {from n x : ℕ} where
+  pub probing-start : Probing f s w ms from n x from
+  probing-start = record { is = λ h t l. refl }
 
-  module _ {i y : ℕ} {b : Bool} (c : Probing f s w ms n x i) (lt : i < n) (e : y ≡ cell ms i) (t : Pairs f s w x y b) where
+  module _ {i y : ℕ} {b : Bool} (c : Probing f s w ms from n x i) (lt : i < n) (e : y ≡ cell ms i) (t : Pairs f s w x y b) where
     says : {q : Pass} {ns : List Node} {xs : List ℕ} → Arena s w q ns → Taken (firstOf n ms) xs (length ns) → x < length ns → b ≡ f ns x (getD xs i 0)
     says {ns = ns} {xs = xs} h m l = t .is h l (few-below m e lt) ∙ ap (f ns x) (few-at (m .list) e lt)
 
-    pub probing-here : b ≡ true → Probes f s w ms n x true
+    pub probing-here : b ≡ true → Probes f s w ms from n x true
     probing-here z = record { is = λ {q} {ns} {xs} h m l. any-here (f ns x) xs i (c .is h m l) (omega (arith, m .list .count)) (sym z ∙ says h m l) }
 
-    pub probing-more : b ≡ false → Probing f s w ms n x (i + 1)
-    probing-more z = record { few = omega arith; is = λ {q} {ns} {xs} h m l. any-more (f ns x) xs i (c .is h m l) (omega (arith, m .list .count)) (sym z ∙ says h m l) }
+    pub probing-more : b ≡ false → Probing f s w ms from n x (i + 1)
+    probing-more z = record { is = λ {q} {ns} {xs} h m l. any-more (f ns x) xs i (c .is h m l) (omega (arith, m .list .count)) (sym z ∙ says h m l) }
 
-  pub probing-done : {i : ℕ} → Probing f s w ms n x i → n ≤ i → Probes f s w ms n x false
+  pub probing-done : {i : ℕ} → Probing f s w ms from n x i → n ≤ i → Probes f s w ms from n x false
   probing-done {i} c le = record { is = λ {q} {ns} {xs} h m l. any-done (f ns x) xs i (c .is h m l) (omega (arith, m .list .count)) }
 
 -- `is_redundant`
@@ -107,10 +91,10 @@ module _ {s w ms : List ℕ} (functor : ℕ) {n x : ℕ} {b : Bool} (neg : Is s 
       record {
         is = λ {q} {ns} {xs} h m lt.
             sym (ap (any (λ (a : ℕ). all (λ (c : ℕ). are-output-types-disjoint functor ns c a) (filter (isConcrete ns) xs)))
-            (inner-none (nodeAt ns x) (eqb-false (kindOf (nodeAt ns x)) 8 (sym (neg .is h lt) ∙ not-true b e))))
+            (no-inner (nodeAt ns x) (eqb-false (kindOf (nodeAt ns x)) 8 (sym (neg .is h lt) ∙ not-true b e))))
       }
 
-  pub redundant-neg : {a : ℕ} {d r : Bool} → not b ≡ false → Word s w x 1 a → Probes (overlap functor) s w ms n a d → r ≡ not d → Beside (redundant functor) s w ms n x r
+  pub redundant-neg : {a : ℕ} {d r : Bool} → not b ≡ false → Word s w x 1 a → Probes (overlap functor) s w ms 0 n a d → r ≡ not d → Beside (redundant functor) s w ms n x r
   redundant-neg {a} {d} {r} e inner over f =
       record {
         is = λ {q} {ns} {xs} h m lt.
@@ -118,7 +102,7 @@ module _ {s w ms : List ℕ} (functor : ℕ) {n x : ℕ} {b : Bool} (neg : Is s 
             let low : a < x = subst (λ (m : Node). Under x (children m)) (sym node) (h .below x lt) .0 in
             f ∙ ap not (over .is h m (omega arith))
             ∙ sym (all-any (λ (c : ℕ). are-output-types-disjoint functor ns c a) (isConcrete ns) xs)
-            ∙ any-one (all (λ (c : ℕ). are-output-types-disjoint functor ns c a) (filter (isConcrete ns) xs))
+            ∙ sym (once (all (λ (c : ℕ). are-output-types-disjoint functor ns c a) (filter (isConcrete ns) xs)))
             ∙ ap (λ (m : Node). any (λ (a : ℕ). all (λ (c : ℕ). are-output-types-disjoint functor ns c a) (filter (isConcrete ns) xs)) (innerOf m)) node
       }
 

@@ -27,7 +27,7 @@ use Rattle.lang_ty.proofs.Reading.{word-of}
 use Rattle.members.specs.declared.negate.Negated.{Negated}
 use Rattle.members.specs.declared.negate.Negated.the-variants.{Node, Refused}
 use Rattle.members.specs.Intersections.{passIn, counting, Counted, Entered, Turns, membersUpTo, Negatable, Negation, AnswersCounted, turnedNode, StoresNegation, Negates, NegatesOutput}
-use Rattle.members.proofs.Filtering.{under-at, under-both, under-most}
+use Rattle.rules.proofs.Filtering.{under-at, under-both, under-most}
 
 -- a state with no marks, and one with those of another
 abbrev unmarked : State → State
@@ -62,7 +62,7 @@ unfolding store
 store-marks n st = few-marks (ltb mostMembers (length (members n))) n st (find (encode n) (map encode (st .nodes)) 0)
 
 -- a pass of the same nodes and cells
-arena-pass : {s w : List ℕ} {q p : Pass} {ns : List rules.Node} → q .nodes ≡ p .nodes → q .cells ≡ p .cells → Arena s w q ns → Arena s w p ns
+pub arena-pass : {s w : List ℕ} {q p : Pass} {ns : List rules.Node} → q .nodes ≡ p .nodes → q .cells ≡ p .cells → Arena s w q ns → Arena s w p ns
 arena-pass {s} e f a =
     record {
       count = a .count ∙ e;
@@ -72,6 +72,7 @@ arena-pass {s} e f a =
       ends = a .ends;
       top = let g = ap (cell s) e in omega (arith, a .top);
       below = a .below;
+      slim = a .slim;
       places = a .places;
       room = a .room;
     }
@@ -196,7 +197,7 @@ up-to-more ns more (suc k) h =
     ap₂ (λ (a b : ℕ). a + b) (up-to-more ns more k (omega arith)) (ap (λ (n : rules.Node). length (members n)) (List·getD-append ns more Bottom k (omega arith)))
 
 -- members are children
-under-members : (k : ℕ) (n : rules.Node) → Under k (children n) → Under k (members n)
+pub under-members : (k : ℕ) (n : rules.Node) → Under k (children n) → Under k (members n)
 under-members k (TyVar a) u = tt
 under-members k (Primitive c) u = tt
 under-members k (ListOf a) u = tt
@@ -224,13 +225,13 @@ turned-over f x (Neg a) st h = absurd (h refl)
 turned-over f x Bottom st h = refl
 turned-over f x Top st h = refl
 
-bind-none : (o : Out (List ℕ)) → o ≡ bind o (λ zs. give zs)
+pub bind-none : (o : Out (List ℕ)) → o ≡ bind o (λ zs. give zs)
 bind-none (ok zs st) = refl
 bind-none (no k) = refl
 
-bind-more : (ys : List ℕ) (y : ℕ) (o : Out (List ℕ)) → bind (bind o (λ xs. give (y ∷ xs))) (λ zs. give (ys ++ zs)) ≡ bind o (λ zs. give ((ys ++ (y ∷ [])) ++ zs))
-bind-more ys y (ok xs st) = ap (λ (l : List ℕ). ok l st) (sym (append-assoc ys (y ∷ []) xs))
-bind-more ys y (no k) = refl
+pub bind-more : (ys l : List ℕ) (o : Out (List ℕ)) → bind (bind o (λ xs. give (l ++ xs))) (λ zs. give (ys ++ zs)) ≡ bind o (λ zs. give ((ys ++ l) ++ zs))
+bind-more ys l (ok xs st) = ap (λ (l : List ℕ). ok l st) (sym (append-assoc ys l xs))
+bind-more ys l (no k) = refl
 
 -- the node of a Neg is what its row says
 pub neg-at : {s w : List ℕ} {q : Pass} {ns : List rules.Node} {x r : ℕ} → Arena s w q ns → x < length ns → kindOf (nodeAt ns x) ≡ 8 → Word s w x 1 r → Neg r ≡ nodeAt ns x
@@ -399,7 +400,7 @@ module _ {f : ℕ} {st : State} {s₀ w₀ s w held₀ held : List ℕ} {q : Pas
         is =
             turn e lt
             ∙ ap (λ (o : Out ℕ). bind (bind o (λ y z. bind (each (negateBy f) (drop (suc i) mine) z) (λ xs. give (y ∷ xs)))) (λ zs. give (part held h i ++ zs))) (a .is)
-            ∙ bind-more (part held h i) y (each (negateBy f) (drop (suc i) mine) (a .after))
+            ∙ bind-more (part held h i) (y ∷ []) (each (negateBy f) (drop (suc i) mine) (a .after))
             ∙ ap₂ (λ (l : List ℕ) (j : ℕ). bind (each (negateBy f) (drop j mine) (a .after)) (λ zs. give (l ++ zs))) (sym parts) (sym (add-one i));
       }
 

@@ -3,19 +3,21 @@ use mathlib.Core.Path.{_≡_}
 use mathlib.Core.Bool.{Bool, false, not}
 use Prim.Native.Nat.{ℕ, zero, suc, _+_, _≤_, _<_}
 use mathlib.Core.List.{List, _++_}
-use lib.ListN.{length, set}
+use lib.ListN.{length, getD, drop, set}
 use lib.Dec.{eqb}
 use Rattle.cells.specs.Part.{cell, part, if, Under}
-use Rattle.rules.specs.Types.{State, Out, ok, no, Union, Intersection, Neg, kindOf, members, nodeAt, store}
+use Rattle.rules.specs.Types.{State, Out, ok, no, Run, Union, Intersection, Neg, kindOf, members, nodeAt, store}
 use Rattle.rules.specs.Types as rules
 use Rattle.rules.specs.Plain.{any, all, filter, both}
-use Rattle.rules.specs.Members.{innerOf, isConcrete, are-output-types-disjoint, negateBy, negate-output-ty}
+use Rattle.rules.specs.Members.{innerOf, negatedInners, isPositive, isConcrete, are-output-types-disjoint, is-output-subtype-or-equal, spared, simplifyOne, simplifyEach, takesSome, negateBy, negate-output-ty}
 use Rattle.lang_ty.specs.declared.arena.Pass.{Pass}
 use Rattle.lang_ty.specs.declared.arena.Given.{Given}
 use Rattle.lang_ty.specs.declared.arena.Given.the-variants.{Node as NodeG, Refused as RefusedG}
 use Rattle.lang_ty.specs.Nodes.{Arena, Stands}
 use Rattle.members.specs.declared.lists.Members.{Members}
-use Rattle.members.specs.Lists.{Taken}
+use Rattle.members.specs.declared.lists.Part.{Part}
+use Rattle.members.specs.declared.lists.Grown.{Grown}
+use Rattle.members.specs.Lists.{Taken, Gathered, AnswersPart, AnswersGrown}
 use Rattle.members.specs.declared.negate.Negated.{Negated}
 use Rattle.members.specs.declared.negate.Negated.the-variants.{Node, Refused}
 
@@ -105,9 +107,10 @@ firstOf n ms = record { count = n; at = ms }
 pub record Pairs (f : List rules.Node → ℕ → ℕ → Bool) (s w : List ℕ) (x y : ℕ) (r : Bool) : Type 0 where
   pub is : {q : Pass} {ns : List rules.Node} → Arena s w q ns → x < length ns → y < length ns → r ≡ f ns x y
 
--- whether it holds of x and one of the members
-pub record Probes (f : List rules.Node → ℕ → ℕ → Bool) (s w ms : List ℕ) (n x : ℕ) (r : Bool) : Type 0 where
-  pub is : {q : Pass} {ns : List rules.Node} {xs : List ℕ} → Arena s w q ns → Taken (firstOf n ms) xs (length ns) → x < length ns → r ≡ any (f ns x) xs
+-- whether it holds of x and one of the members from a place on
+pub record Probes (f : List rules.Node → ℕ → ℕ → Bool) (s w ms : List ℕ) (from n x : ℕ) (r : Bool) : Type 0 where
+  pub is : {q : Pass} {ns : List rules.Node} {xs : List ℕ} → Arena s w q ns → Taken (firstOf n ms) xs (length ns) → x < length ns
+      → r ≡ any (f ns x) (drop from xs)
 
 -- r is the answer of the test f on x beside the members
 pub record Beside (f : List rules.Node → List ℕ → ℕ → Bool) (s w ms : List ℕ) (n x : ℕ) (r : Bool) : Type 0 where
@@ -123,3 +126,41 @@ overlap functor ns x y = both (isConcrete ns y) (λ _. not (are-output-types-dis
 -- m is a Neg, and what it holds is disjoint from every member with a known constructor
 abbrev pub redundant : ℕ → List rules.Node → List ℕ → ℕ → Bool
 redundant functor ns ms m = any (λ (a : ℕ). all (λ (c : ℕ). are-output-types-disjoint functor ns c a) (filter (isConcrete ns) ms)) (innerOf (nodeAt ns m))
+
+-- m is a Neg that holds x or a wider primitive
+abbrev pub negatedBy : List rules.Node → ℕ → ℕ → Bool
+negatedBy ns x m = any (is-output-subtype-or-equal ns x) (innerOf (nodeAt ns m))
+
+-- a Neg among the members holds x or a wider primitive
+abbrev pub negated : List rules.Node → List ℕ → ℕ → Bool
+negated ns xs x = any (is-output-subtype-or-equal ns x) (negatedInners ns xs)
+
+-- x is positive, and negated
+abbrev pub subsumed : List rules.Node → List ℕ → ℕ → Bool
+subsumed ns xs x = both (isPositive ns x) (λ _. negated ns xs x)
+
+-- what the negations among the members spare of node x
+pub record Spares (s w ms : List ℕ) (n x : ℕ) (r : Members) : Type 0 where
+  pub is : {q : Pass} {ns : List rules.Node} {xs : List ℕ} → Arena s w q ns → Taken (firstOf n ms) xs (length ns) → x < length ns
+      → Taken r (spared ns (negatedInners ns xs) x) (length ns)
+
+-- x is a union, and a negation among the members takes some member of it
+abbrev pub takes : List rules.Node → List ℕ → ℕ → Bool
+takes ns xs x = takesSome ns (negatedInners ns xs) x
+
+abbrev pub takesAny : List rules.Node → List ℕ → Bool
+takesAny ns xs = any (takes ns xs) xs
+
+-- what simplifying makes of node x, beside the members
+pub record Simplifies (s w : List ℕ) (q : Pass) (ms : List ℕ) (n x : ℕ) (s′ w′ : List ℕ) (r : Part) : Type 0 where
+  pub is : {st : State} {xs : List ℕ} → Stands st s w q → Taken (firstOf n ms) xs (length (st .nodes)) → x < length (st .nodes)
+      → AnswersPart (simplifyOne (negatedInners (st .nodes) xs) x st) s′ w′ r
+
+-- what simplifying makes of member i, behind what was gathered
+pub record SimplifiesInto (s w : List ℕ) (q : Pass) (ms : List ℕ) (n i : ℕ) (out : List ℕ) (k : ℕ) (s′ w′ out′ : List ℕ) (r : Grown) : Type 0 where
+  pub is : {st : State} {xs got : List ℕ} → Stands st s w q → Taken (firstOf n ms) xs (length (st .nodes)) → i < n → Gathered out k got → length got < 128
+      → AnswersGrown (simplifyOne (negatedInners (st .nodes) xs) (getD xs i 0) st) s′ w′ got out′ r
+
+-- each member simplified by the negations among them
+abbrev pub simplifyAll : List ℕ → Run (List ℕ)
+simplifyAll xs = λ st. simplifyEach (negatedInners (st .nodes) xs) xs st

@@ -1,14 +1,15 @@
 -- Flattening, and what is done to the members of a union: what the functions of flatten.rt and unions.rt ensure.
 use mathlib.Core.Path.{_≡_}
-use mathlib.Core.Bool.{Bool, _||_}
+use mathlib.Core.Bool.{Bool, not, _||_}
 use Prim.Native.Nat.{ℕ, _<_}
-use mathlib.Core.List.{List, []}
-use lib.ListN.{length}
-use Rattle.cells.specs.Part.{Under}
-use Rattle.rules.specs.Plain.{any, all, filter, contains, addNew}
+use mathlib.Core.List.{List, [], _∷_, _++_}
+use lib.ListN.{length, getD}
+use lib.Dec.{eqb}
+use Rattle.cells.specs.Part.{cell, if, Under}
+use Rattle.rules.specs.Plain.{any, all, filter, contains, addNew, both}
 use Rattle.rules.specs.Table.{Attr, fieldKeys}
 use Rattle.rules.specs.Types.{Node, AttrSet, nodeAt, asAttr}
-use Rattle.rules.specs.Members.{membersAt, addAll, flattenOne, flattenInto, innerOf, negatedInners, isPositive, cancelled, sameDyn, subsumesNode}
+use Rattle.rules.specs.Members.{membersAt, addAll, flattenOne, flattenInto, innerOf, negatedInners, isPositive, cancelled, sameDyn, subsumesNode, takenByNode, left}
 use Rattle.lang_ty.specs.declared.arena.Pass.{Pass}
 use Rattle.lang_ty.specs.Nodes.{Arena}
 use Rattle.lang_ty.specs.Sets.{SetAt}
@@ -73,3 +74,25 @@ pub record DynCovers (w : List ℕ) (a b : ℕ) (r : Bool) : Type 0 where
 -- node x, a set, takes up node y
 pub record Subsumes (s w : List ℕ) (x y : ℕ) (r : Bool) : Type 0 where
   pub is : {q : Pass} {ns : List Node} {t : Attr} → Arena s w q ns → x < length ns → y < length ns → nodeAt ns x ≡ AttrSet t → r ≡ subsumesNode t (asAttr (nodeAt ns y))
+
+-- of the 128 cells gone, those at the places ps are marked, and no others
+pub record Marked (gone ps : List ℕ) : Type 0 where
+  pub room : length gone ≡ 128
+  pub is : (j : ℕ) → j < 128 → eqb (cell gone j) 0 ≡ not (contains ps j)
+
+pub record MarksIf (gone : List ℕ) (j : ℕ) (b : Bool) (gone′ : List ℕ) : Type 0 where
+  pub is : {ps : List ℕ} → Marked gone ps → j < 128 → Marked gone′ (if b (λ _. ps ++ (j ∷ [])) (λ _. ps))
+
+-- the set x, at place i, takes up the member at place j
+pub record Takes (s w ms : List ℕ) (i x j : ℕ) (gone : List ℕ) (r : Bool) : Type 0 where
+  pub is : {q : Pass} {ns : List Node} {t : Attr} {ps : List ℕ} → Arena s w q ns → x < length ns → nodeAt ns x ≡ AttrSet t → cell ms j < length ns
+      → Marked gone ps → j < 128 → r ≡ both (not (eqb i j || contains ps j)) (λ _. subsumesNode t (asAttr (nodeAt ns (cell ms j))))
+
+-- the places that the member at place i takes up are marked too
+pub record MarksTaken (s w ms : List ℕ) (n i : ℕ) (gone gone′ : List ℕ) : Type 0 where
+  pub is : {q : Pass} {ns : List Node} {xs ps : List ℕ} → Arena s w q ns → Taken (record { count = n; at = ms }) xs (length ns) → i < n → Marked gone ps
+      → Marked gone′ (takenByNode ns xs ps i (asAttr (nodeAt ns (getD xs i 0))))
+
+-- the members whose places are not marked
+pub record Leaves (m : Members) (gone : List ℕ) (r : Members) : Type 0 where
+  pub is : {xs ps : List ℕ} {k : ℕ} → Taken m xs k → Marked gone ps → Taken r (left ps 0 xs) k

@@ -1,19 +1,17 @@
 // Factoring: members that all unions of an intersection share come out of it.
 use cells::at;
-use cells::place;
-use cells::put;
 use cells::set;
 use crate::lists::Flow;
 use crate::lists::Grown;
 use crate::lists::Listed;
 use crate::lists::Members;
+use crate::lists::Part;
 use crate::lists::as_listed;
 use crate::lists::contains;
 use crate::lists::grow;
 use crate::lists::joined;
 use crate::lists::keep_if;
 use crate::lists::of_kind;
-use crate::lists::one;
 use crate::lists::refused;
 use crate::lists::sole;
 use lang_ty::arc_ty;
@@ -21,9 +19,17 @@ use lang_ty::arc_ty::Order;
 use lang_ty::arena;
 use lang_ty::arena::OutputTy;
 use lang_ty::arena::Pass;
+ghost use Rattle.rules.specs.Members.{factor-shared-from-intersection};
+ghost use Rattle.rules.specs.Order.{sort};
+ghost use Rattle.cells.specs.Part.{cell};
+ghost use Rattle.members.specs.Lists.{Makes, Tests, Runs, Asks};
+ghost use Rattle.members.specs.Intersections.{firstOf, Pairs};
+ghost use Rattle.members.specs.Factors.{hasMember, inOthers, inAllOthers, notAmong, Picks, Remains, Leaves, behind, Placed, PutIn, Inserts, Marked, SolesAny, FactorsParts, FactorsRests, FactorsUnions, FactorsOne};
 
-// What stands in x of the first union: the members that every other union of the list has too.
-fn in_all_others(starts: &[u32], words: &[u32], s: &[u32], n: u32, x: u32) -> bool {
+// Whether every union of the list but the first has the member x.
+fn in_all_others(starts: &[u32], words: &[u32], s: &[u32], n: u32, x: u32) -> bool
+    ensures { λ r. ⌜ Tests (inOthers x) (now (starts .entry)) (now (words .entry)) (firstOf n (now (s .entry))) r ⌝ }
+{
     let mut i = 1;
     while i < n {
         if !has_member(starts, words, at(s, i), x) {
@@ -34,7 +40,9 @@ fn in_all_others(starts: &[u32], words: &[u32], s: &[u32], n: u32, x: u32) -> bo
     true
 }
 
-fn has_member(starts: &[u32], words: &[u32], u: u32, x: u32) -> bool {
+fn has_member(starts: &[u32], words: &[u32], u: u32, x: u32) -> bool
+    ensures { λ r. ⌜ Asks (hasMember x) (now (starts .entry)) (now (words .entry)) u r ⌝ }
+{
     let n = arena::count(starts, words, u);
     let mut i = 0;
     while i < n {
@@ -47,7 +55,9 @@ fn has_member(starts: &[u32], words: &[u32], u: u32, x: u32) -> bool {
 }
 
 // The members of the first of the unions that all others have.
-fn shared_members(starts: &[u32], words: &[u32], unions: Members) -> Members {
+fn shared_members(starts: &[u32], words: &[u32], unions: Members) -> Members
+    ensures { λ r. ⌜ Picks inAllOthers (now (starts .entry)) (now (words .entry)) (unions .at) (unions .count) (cell (unions .at) 0) r ⌝ }
+{
     let s = unions.at;
     let u = s[0];
     let n = arena::count(starts, words, u);
@@ -63,7 +73,9 @@ fn shared_members(starts: &[u32], words: &[u32], unions: Members) -> Members {
 }
 
 // The members of union u that are not among the first n cells of s.
-fn unshared(starts: &[u32], words: &[u32], s: &[u32], n: u32, u: u32) -> Members {
+fn unshared(starts: &[u32], words: &[u32], s: &[u32], n: u32, u: u32) -> Members
+    ensures { λ r. ⌜ Picks notAmong (now (starts .entry)) (now (words .entry)) (now (s .entry)) n u r ⌝ }
+{
     let c = arena::count(starts, words, u);
     let mut out = [0u32; 128];
     let mut k = 0;
@@ -77,14 +89,18 @@ fn unshared(starts: &[u32], words: &[u32], s: &[u32], n: u32, u: u32) -> Members
 }
 
 // What is left of union u without the first n cells of s, put behind the first k cells of out.
-fn remainder(starts: &mut [u32], words: &mut [u32], q: Pass, s: &[u32], n: u32, u: u32, out: &mut [u32], k: u32) -> Grown {
+fn remainder(starts: &mut [u32], words: &mut [u32], q: Pass, s: &[u32], n: u32, u: u32, out: &mut [u32], k: u32) -> Grown
+    ensures { λ r. ⌜ Remains (now (starts .entry)) (now (words .entry)) q (now (s .entry)) n u (now (out .entry)) k (now (starts .exit)) (now (words .exit)) (now (out .exit)) r ⌝ }
+{
     let rest = unshared(starts, words, s, n, u);
     let part = sole(starts, words, q, OutputTy::UNION, rest);
     grow(out, k, part)
 }
 
 // Each union without the shared members.
-fn remainders(starts: &mut [u32], words: &mut [u32], p: Pass, shared: Members, unions: Members) -> Listed {
+fn remainders(starts: &mut [u32], words: &mut [u32], p: Pass, shared: Members, unions: Members) -> Listed
+    ensures { λ r. ⌜ Leaves (now (starts .entry)) (now (words .entry)) p shared unions (now (starts .exit)) (now (words .exit)) r ⌝ }
+{
     let s = shared.at;
     let m = shared.count;
     let us = unions.at;
@@ -112,25 +128,58 @@ fn remainders(starts: &mut [u32], words: &mut [u32], p: Pass, shared: Members, u
     }
 }
 
-// x put into the first n cells of s, which are in order, after all that are not greater.
-fn insert(starts: &[u32], words: &[u32], s: &mut [u32], n: u32, x: u32) {
-    let mut i = n;
-    let mut hole = n;
-    while 0 < i {
-        i -= 1;
-        let y = at(s, i);
-        if let Order::Greater = arc_ty::compare(starts, words, y, x) {
-            put(s, place(i, 1), y);
-            hole = i;
-        } else {
-            i = 0;
-        }
+// Whether node y comes behind node x in the order of nodes.
+fn is_behind(starts: &[u32], words: &[u32], y: u32, x: u32) -> bool
+    ensures { λ r. ⌜ Pairs behind (now (starts .entry)) (now (words .entry)) y x r ⌝ }
+{
+    match arc_ty::compare(starts, words, y, x) {
+        Order::Less => false,
+        Order::Equal => false,
+        Order::Greater => true,
     }
-    set(s, hole, x);
+}
+
+// Where x goes among the first n cells of s: before the first that is greater.
+fn place_of(starts: &[u32], words: &[u32], s: &[u32], n: u32, x: u32) -> u32
+    ensures { λ r. ⌜ Placed (now (starts .entry)) (now (words .entry)) (now (s .entry)) n x r ⌝ }
+{
+    let mut i = 0;
+    while i < n {
+        if is_behind(starts, words, at(s, i), x) {
+            return i;
+        }
+        i += 1;
+    }
+    i
+}
+
+// x put before cell i of the first n cells of s, those from i on moved up by one.
+fn put_in(s: &mut [u32], i: u32, n: u32, x: u32)
+    ensures { λ _. ⌜ PutIn (now (s .entry)) i n x (now (s .exit)) ⌝ }
+{
+    let mut v = x;
+    let mut j = i;
+    while j < n {
+        let y = at(s, j);
+        set(s, j, v);
+        v = y;
+        j += 1;
+    }
+    set(s, j, v);
+}
+
+// x put into the first n cells of s, which are in order, after all that are not greater.
+fn insert(starts: &[u32], words: &[u32], s: &mut [u32], n: u32, x: u32)
+    ensures { λ _. ⌜ Inserts (now (starts .entry)) (now (words .entry)) (now (s .entry)) n x (now (s .exit)) ⌝ }
+{
+    let i = place_of(starts, words, s, n, x);
+    put_in(s, i, n, x);
 }
 
 // The shared members in the order of nodes.
-fn sort(starts: &[u32], words: &[u32], m: Members) -> Members {
+fn sort(starts: &[u32], words: &[u32], m: Members) -> Members
+    ensures { λ r. ⌜ Makes sort (now (starts .entry)) (now (words .entry)) m r ⌝ }
+{
     let ms = m.at;
     let n = m.count;
     let mut out = [0u32; 128];
@@ -143,25 +192,42 @@ fn sort(starts: &[u32], words: &[u32], m: Members) -> Members {
 }
 
 // The pass with the sorted mark where two members or more are shared.
-fn mark_sorted(q: Pass, n: u32) -> Pass {
+fn mark_sorted(q: Pass, n: u32) -> Pass
+    ensures { λ r. ⌜ Marked q n r ⌝ }
+{
+    if n < 2 {
+        return q;
+    }
     Pass {
         nodes: q.nodes,
         cells: q.cells,
         ops: q.ops,
-        sorted: q.sorted || 1 < n,
+        sorted: true,
         bailed: q.bailed,
     }
 }
 
+// `sole` of a list that may be more than fit: 7 then.
+fn sole_of_any(starts: &mut [u32], words: &mut [u32], q: Pass, kind: u32, m: Members) -> Part
+    ensures { λ r. ⌜ SolesAny kind (now (starts .entry)) (now (words .entry)) q m (now (starts .exit)) (now (words .exit)) r ⌝ }
+{
+    if Pass::MEMBERS < m.count {
+        return Part::Refused(7);
+    }
+    sole(starts, words, q, kind, m)
+}
+
 // The shared members beside the intersection of the parts.
-fn factored(starts: &mut [u32], words: &mut [u32], q: Pass, shared: Members, parts: Members) -> Listed {
-    let first = sole(starts, words, q, OutputTy::INTERSECTION, parts);
+fn factored(starts: &mut [u32], words: &mut [u32], q: Pass, shared: Members, parts: Members) -> Listed
+    ensures { λ r. ⌜ FactorsParts (now (starts .entry)) (now (words .entry)) q shared parts (now (starts .exit)) (now (words .exit)) r ⌝ }
+{
+    let first = sole_of_any(starts, words, q, OutputTy::INTERSECTION, parts);
     let inner = as_listed(first);
     let flow = inner.flow;
     match flow {
         Flow::On(r) => {
             let all = joined(shared, inner.members);
-            let whole = sole(starts, words, r, OutputTy::UNION, all);
+            let whole = sole_of_any(starts, words, r, OutputTy::UNION, all);
             as_listed(whole)
         }
         Flow::Refused(k) => refused(k),
@@ -169,20 +235,25 @@ fn factored(starts: &mut [u32], words: &mut [u32], q: Pass, shared: Members, par
 }
 
 // The shared members in order beside what is left of the unions and the other members.
-fn factor_rests(starts: &mut [u32], words: &mut [u32], rests: Listed, shared: Members, others: Members) -> Listed {
+fn factor_rests(starts: &mut [u32], words: &mut [u32], rests: Listed, shared: Members, others: Members) -> Listed
+    ensures { λ r. ⌜ FactorsRests (now (starts .entry)) (now (words .entry)) rests shared others (now (starts .exit)) (now (words .exit)) r ⌝ }
+{
     let flow = rests.flow;
     match flow {
         Flow::On(q) => {
             let inorder = sort(starts, words, shared);
             let parts = joined(rests.members, others);
-            factored(starts, words, mark_sorted(q, shared.count), inorder, parts)
+            let p = mark_sorted(q, inorder.count);
+            factored(starts, words, p, inorder, parts)
         }
         Flow::Refused(k) => refused(k),
     }
 }
 
 // factor_shared_from_intersection with two unions or more.
-fn factor_unions(starts: &mut [u32], words: &mut [u32], q: Pass, others: Members, unions: Members) -> Listed {
+fn factor_unions(starts: &mut [u32], words: &mut [u32], q: Pass, others: Members, unions: Members) -> Listed
+    ensures { λ r. ⌜ FactorsUnions (now (starts .entry)) (now (words .entry)) q others unions (now (starts .exit)) (now (words .exit)) r ⌝ }
+{
     let shared = shared_members(starts, words, unions);
     if shared.count == 0 {
         let all = joined(others, unions);
@@ -195,25 +266,31 @@ fn factor_unions(starts: &mut [u32], words: &mut [u32], q: Pass, others: Members
     factor_rests(starts, words, rests, shared, others)
 }
 
-// A sole union goes last, and one of one member is unwrapped.
-fn factor_one(starts: &[u32], words: &[u32], q: Pass, others: Members, u: u32) -> Listed {
-    let n = arena::count(starts, words, u);
-    if n == 0 {
-        return Listed {
-            flow: Flow::On(q),
-            members: others,
-        };
-    }
-    let last = if n == 1 { arena::member(starts, words, u, 0) } else { u };
-    let all = joined(others, one(last));
-    Listed {
-        flow: Flow::On(q),
-        members: all,
+// A sole union goes last, and one of one member is unwrapped. It is stored again, which gives its own number.
+fn factor_one(starts: &mut [u32], words: &mut [u32], q: Pass, others: Members, u: u32) -> Listed
+    ensures { λ r. ⌜ FactorsOne (now (starts .entry)) (now (words .entry)) q others u (now (starts .exit)) (now (words .exit)) r ⌝ }
+{
+    let s = [0u32; 128];
+    let whole = unshared(starts, words, &s, 0, u);
+    let part = sole(starts, words, q, OutputTy::UNION, whole);
+    let last = as_listed(part);
+    let flow = last.flow;
+    match flow {
+        Flow::On(r) => {
+            let all = joined(others, last.members);
+            Listed {
+                flow: Flow::On(r),
+                members: all,
+            }
+        }
+        Flow::Refused(k) => refused(k),
     }
 }
 
 // factor_shared_from_intersection
-pub fn factor_shared_from_intersection(starts: &mut [u32], words: &mut [u32], q: Pass, m: Members) -> Listed {
+pub fn factor_shared_from_intersection(starts: &mut [u32], words: &mut [u32], q: Pass, m: Members) -> Listed
+    ensures { λ r. ⌜ Runs factor-shared-from-intersection (now (starts .entry)) (now (words .entry)) q m (now (starts .exit)) (now (words .exit)) r ⌝ }
+{
     let unions = of_kind(starts, words, m, OutputTy::UNION, true);
     let others = of_kind(starts, words, m, OutputTy::UNION, false);
     let n = unions.count;

@@ -8,7 +8,6 @@ use cells::set;
 use crate::lists::Flow;
 use crate::lists::Listed;
 use crate::lists::Members;
-use crate::lists::keep_if;
 use crate::lists::of_kind;
 use crate::lists::refused;
 use crate::lists::with_last;
@@ -18,6 +17,10 @@ use lang_ty::arena::OutputTy;
 use lang_ty::arena::Pass;
 use lang_ty::attrset;
 use lang_ty::disjoint;
+ghost use mathlib.Core.Path.{_≡_};
+ghost use Rattle.cells.specs.Part.{part};
+ghost use Rattle.lang_ty.specs.Nodes.{Written};
+ghost use Rattle.members.specs.Merges.{MergesSets, Meets, PutsField, HeldKey, HeldType, ComesNext, MergesField, oldTaken, newTaken, GoesOn, fieldsAt, MergesFields, dynAt, MergesDyn, OtherArea, MergesOne, MergesAll, Allows, OptionalInAll, OpenIfAll, WritesFields, PutsIf, WritesOptional, StoresMerged, MergedLast};
 
 // What sets come to so far: fields held at a place, and a dyn or none.
 struct Merging {
@@ -38,24 +41,35 @@ enum Merged {
 }
 
 // Two types of one key: an earlier TyVar gives way, two that differ are intersected.
-fn meet_types(starts: &mut [u32], words: &mut [u32], q: Pass, old: u32, new: u32) -> Given {
-    if old == new || arena::is(starts, words, OutputTy::TY_VAR, old) {
+fn meet_types(starts: &mut [u32], words: &mut [u32], q: Pass, old: u32, new: u32) -> Given
+    ensures { λ r. ⌜ Meets (now (starts .entry)) (now (words .entry)) q old new (now (starts .exit)) (now (words .exit)) r ⌝ }
+{
+    if old == new {
+        return Given::Node(new, q);
+    }
+    if arena::is(starts, words, OutputTy::TY_VAR, old) {
         return Given::Node(new, q);
     }
     arena::store_both(starts, words, q, OutputTy::INTERSECTION, old, new)
 }
 
 // Key and type put at field i of the area at a.
-fn put_field(held: &mut [u32], a: u32, i: u32, key: u32, ty: u32) {
+fn put_field(held: &mut [u32], a: u32, i: u32, key: u32, ty: u32)
+    ensures { λ _. ⌜ PutsField (now (held .entry)) a i key ty (now (held .exit)) ⌝ }
+{
     put(held, place(a, add(i, i)), key);
     put(held, place(a, add(add(i, i), 1)), ty);
 }
 
-fn held_key(held: &[u32], a: u32, i: u32) -> u32 {
+fn held_key(held: &[u32], a: u32, i: u32) -> u32
+    ensures { λ r. ⌜ HeldKey (now (held .entry)) a i r ⌝ }
+{
     get(held, place(a, add(i, i)))
 }
 
-fn held_type(held: &[u32], a: u32, i: u32) -> u32 {
+fn held_type(held: &[u32], a: u32, i: u32) -> u32
+    ensures { λ r. ⌜ HeldType (now (held .entry)) a i r ⌝ }
+{
     get(held, place(a, add(add(i, i), 1)))
 }
 
@@ -67,13 +81,21 @@ enum Next {
 }
 
 // The next of n held fields at a, of which i are taken, and of the m fields of the set at s, of which j are taken.
-fn next_field(words: &[u32], held: &[u32], a: u32, i: u32, n: u32, s: u32, j: u32, m: u32) -> Next {
-    let old = held_key(held, a, i);
-    let new = attrset::key(words, s, j);
-    if j < m && (n <= i || new < old) {
+fn next_field(words: &[u32], held: &[u32], a: u32, i: u32, n: u32, s: u32, j: u32, m: u32) -> Next
+    ensures { λ r. ⌜ ComesNext (now (words .entry)) (now (held .entry)) a i n s j m r ⌝ }
+{
+    if m <= j {
+        return Next::Old;
+    }
+    if n <= i {
         return Next::New;
     }
-    if m <= j || old < new {
+    let old = held_key(held, a, i);
+    let new = attrset::key(words, s, j);
+    if new < old {
+        return Next::New;
+    }
+    if old < new {
         return Next::Old;
     }
     Next::Both
@@ -92,7 +114,9 @@ fn merge_field(
     j: u32,
     b: u32,
     k: u32,
-) -> Flow {
+) -> Flow
+    ensures { λ r. ⌜ MergesField (now (starts .entry)) (now (words .entry)) (now (held .entry)) q next a i s j b k (now (starts .exit)) (now (words .exit)) (now (held .exit)) r ⌝ }
+{
     let old = held_type(held, a, i);
     let new = attrset::field_type(words, s, j);
     match next {
@@ -115,39 +139,73 @@ fn merge_field(
 }
 
 // One where the old list's field is taken, and where the new one's is.
-fn takes_old(next: Next) -> u32 {
+fn takes_old(next: Next) -> u32
+    ensures { λ r. ⌜ r ≡ oldTaken next ⌝ }
+{
     match next {
+        Next::Old => 1,
         Next::New => 0,
-        _ => 1,
+        Next::Both => 1,
     }
 }
 
-fn takes_new(next: Next) -> u32 {
+fn takes_new(next: Next) -> u32
+    ensures { λ r. ⌜ r ≡ newTaken next ⌝ }
+{
     match next {
         Next::Old => 0,
-        _ => 1,
+        Next::New => 1,
+        Next::Both => 1,
     }
 }
 
-// The fields of g merged by key with those of the set at s, into the area at b.
+// Whether a field is left, of n held ones of which i are taken or of the set's m of which j are; k of most are merged.
+fn goes_on(k: u32, most: u32, i: u32, n: u32, j: u32, m: u32) -> bool
+    ensures { λ r. ⌜ GoesOn k most i n j m r ⌝ }
+{
+    if most <= k {
+        return false;
+    }
+    if i < n {
+        return true;
+    }
+    j < m
+}
+
+// g with n fields at a.
+fn with_fields(g: Merging, n: u32, a: u32) -> Merging
+    ensures { λ r. ⌜ r ≡ fieldsAt g n a ⌝ }
+{
+    Merging {
+        fields: n,
+        area: a,
+        dyns: g.dyns,
+        dyn_type: g.dyn_type,
+    }
+}
+
+// The fields of g merged by key with those of node x, a set, into the area at b.
 fn merge_fields(
     starts: &mut [u32],
     words: &mut [u32],
     held: &mut [u32],
     p: Pass,
     g: Merging,
-    s: u32,
+    x: u32,
     b: u32,
-) -> Merged {
+) -> Merged
+    ensures { λ r. ⌜ MergesFields (now (starts .entry)) (now (words .entry)) (now (held .entry)) p g x b (now (starts .exit)) (now (words .exit)) (now (held .exit)) r ⌝ }
+{
     let a = g.area;
     let n = g.fields;
-    let m = attrset::fields(words, s);
+    let m = attrset::fields(words, disjoint::set_place(starts, x));
     let most = add(n, m);
     let mut q = p;
     let mut i = 0;
     let mut j = 0;
     let mut k = 0;
-    while k < most && (i < n || j < m) {
+    while goes_on(k, most, i, n, j, m) {
+        let s = disjoint::set_place(starts, x);
         let next = next_field(words, held, a, i, n, s, j, m);
         match merge_field(starts, words, held, q, next, a, i, s, j, b, k) {
             Flow::On(r) => {
@@ -161,16 +219,12 @@ fn merge_fields(
             }
         }
     }
-    let more = Merging {
-        fields: k,
-        area: b,
-        dyns: g.dyns,
-        dyn_type: g.dyn_type,
-    };
-    Merged::On(more, q)
+    Merged::On(with_fields(g, k, b), q)
 }
 
-fn with_dyn(g: Merging, x: u32) -> Merging {
+fn with_dyn(g: Merging, x: u32) -> Merging
+    ensures { λ r. ⌜ r ≡ dynAt g x ⌝ }
+{
     Merging {
         fields: g.fields,
         area: g.area,
@@ -180,13 +234,18 @@ fn with_dyn(g: Merging, x: u32) -> Merging {
 }
 
 // The dyn of g with that of the set at s.
-fn merge_dyn(starts: &mut [u32], words: &mut [u32], q: Pass, g: Merging, s: u32) -> Merged {
+fn merge_dyn(starts: &mut [u32], words: &mut [u32], q: Pass, g: Merging, s: u32) -> Merged
+    ensures { λ r. ⌜ MergesDyn (now (starts .entry)) (now (words .entry)) q g s (now (starts .exit)) (now (words .exit)) r ⌝ }
+{
     if attrset::dyns(words, s) == 0 {
         return Merged::On(g, q);
     }
     let old = g.dyn_type;
     let new = attrset::dyn_type(words, s);
-    if g.dyns == 0 || old == new {
+    if g.dyns == 0 {
+        return Merged::On(with_dyn(g, new), q);
+    }
+    if old == new {
         return Merged::On(with_dyn(g, new), q);
     }
     match arena::store_both(starts, words, q, OutputTy::INTERSECTION, old, new) {
@@ -195,22 +254,35 @@ fn merge_dyn(starts: &mut [u32], words: &mut [u32], q: Pass, g: Merging, s: u32)
     }
 }
 
+// The one of the two areas from h on that is not at a.
+fn other_area(h: u32, a: u32) -> u32
+    ensures { λ r. ⌜ OtherArea h a r ⌝ }
+{
+    if a == h {
+        return add(h, Merging::AREA);
+    }
+    h
+}
+
 // g with the set of node x: dyn first, then the fields in key order. The fields move between the areas at h and behind it.
-fn merge_one(starts: &mut [u32], words: &mut [u32], held: &mut [u32], h: u32, q: Pass, g: Merging, x: u32) -> Merged {
+fn merge_one(starts: &mut [u32], words: &mut [u32], held: &mut [u32], h: u32, q: Pass, g: Merging, x: u32) -> Merged
+    ensures { λ r. ⌜ MergesOne (now (starts .entry)) (now (words .entry)) (now (held .entry)) h q g x (now (starts .exit)) (now (words .exit)) (now (held .exit)) r ⌝ }
+{
     let s = disjoint::set_place(starts, x);
     let first = merge_dyn(starts, words, q, g, s);
     match first {
         Merged::On(d, r) => {
-            let a = d.area;
-            let b = if a == h { add(h, Merging::AREA) } else { h };
-            merge_fields(starts, words, held, r, d, s, b)
+            let b = other_area(h, d.area);
+            merge_fields(starts, words, held, r, d, x, b)
         }
         Merged::Refused(k) => Merged::Refused(k),
     }
 }
 
 // The sets among the members, merged one after another.
-fn merge_sets(starts: &mut [u32], words: &mut [u32], held: &mut [u32], h: u32, p: Pass, sets: Members) -> Merged {
+fn merge_sets(starts: &mut [u32], words: &mut [u32], held: &mut [u32], h: u32, p: Pass, sets: Members) -> Merged
+    ensures { λ r. ⌜ MergesAll (now (starts .entry)) (now (words .entry)) (now (held .entry)) h p sets (now (starts .exit)) (now (words .exit)) (now (held .exit)) r ⌝ }
+{
     let ms = sets.at;
     let n = sets.count;
     let mut g = Merging {
@@ -236,12 +308,24 @@ fn merge_sets(starts: &mut [u32], words: &mut [u32], held: &mut [u32], h: u32, p
     Merged::On(g, q)
 }
 
+// Whether the set at a does not require the key.
+fn allows(words: &[u32], a: u32, key: u32) -> bool
+    ensures { λ r. ⌜ Allows (now (words .entry)) a key r ⌝ }
+{
+    if !attrset::has_field(words, a, key) {
+        return true;
+    }
+    attrset::has_optional(words, a, key)
+}
+
 // A key is optional only if optional in every set that has it.
-fn optional_in_all(starts: &[u32], words: &[u32], s: &[u32], n: u32, key: u32) -> bool {
+fn optional_in_all(starts: &[u32], words: &[u32], s: &[u32], n: u32, key: u32) -> bool
+    ensures { λ r. ⌜ OptionalInAll (now (starts .entry)) (now (words .entry)) (now (s .entry)) n key r ⌝ }
+{
     let mut i = 0;
     while i < n {
         let a = disjoint::set_place(starts, at(s, i));
-        if attrset::has_field(words, a, key) && !attrset::has_optional(words, a, key) {
+        if !allows(words, a, key) {
             return false;
         }
         i += 1;
@@ -250,7 +334,9 @@ fn optional_in_all(starts: &[u32], words: &[u32], s: &[u32], n: u32, key: u32) -
 }
 
 // 1 if all of the sets are open.
-fn open_if_all(starts: &[u32], words: &[u32], s: &[u32], n: u32) -> u32 {
+fn open_if_all(starts: &[u32], words: &[u32], s: &[u32], n: u32) -> u32
+    ensures { λ r. ⌜ OpenIfAll (now (starts .entry)) (now (words .entry)) (now (s .entry)) n r ⌝ }
+{
     let mut i = 0;
     while i < n {
         if attrset::open(words, disjoint::set_place(starts, at(s, i))) != 1 {
@@ -261,18 +347,25 @@ fn open_if_all(starts: &[u32], words: &[u32], s: &[u32], n: u32) -> u32 {
     1
 }
 
+// The n numbers held from a on, written from t on.
+fn write_held(words: &mut [u32], t: u32, held: &[u32], a: u32, n: u32)
+    ensures { λ _. ⌜ Written t (now (words .entry)) (now (words .exit)) (part (now (held .entry)) a n) ⌝ }
+{
+    let mut i = 0;
+    while i < n {
+        put(words, place(t, i), get(held, place(a, i)));
+        i += 1;
+    }
+}
+
 // Kind, fields and dyn of a set written from t on; how many words that are.
-fn write_fields(words: &mut [u32], t: u32, held: &[u32], g: Merging) -> u32 {
-    let a = g.area;
+fn write_fields(words: &mut [u32], t: u32, held: &[u32], g: Merging) -> u32
+    ensures { λ r. ⌜ WritesFields (now (words .entry)) t (now (held .entry)) g (now (words .exit)) r ⌝ }
+{
     let n = add(g.fields, g.fields);
     set(words, t, OutputTy::ATTR_SET);
     put(words, place(t, 1), g.fields);
-    let f = add(t, 2);
-    let mut i = 0;
-    while i < n {
-        put(words, place(f, i), get(held, place(a, i)));
-        i += 1;
-    }
+    write_held(words, add(t, 2), held, g.area, n);
     let d = add(n, 2);
     put(words, place(t, d), g.dyns);
     if g.dyns == 0 {
@@ -282,30 +375,39 @@ fn write_fields(words: &mut [u32], t: u32, held: &[u32], g: Merging) -> u32 {
     add(d, 2)
 }
 
-fn flag(b: bool) -> u32 {
-    if b { 1 } else { 0 }
+// x written behind the k words from o on, if it is kept; how many there are then.
+fn put_if(words: &mut [u32], o: u32, k: u32, x: u32, kept: bool) -> u32
+    ensures { λ r. ⌜ PutsIf (now (words .entry)) o k x kept (now (words .exit)) r ⌝ }
+{
+    if !kept {
+        return k;
+    }
+    put(words, place(o, k), x);
+    add(k, 1)
 }
 
 // The optional keys of a merged set written from o on; how many there are.
-fn write_optional(starts: &[u32], words: &mut [u32], o: u32, held: &[u32], g: Merging, sets: Members) -> u32 {
+fn write_optional(starts: &[u32], words: &mut [u32], o: u32, held: &[u32], g: Merging, sets: Members) -> u32
+    ensures { λ r. ⌜ WritesOptional (now (starts .entry)) (now (words .entry)) o (now (held .entry)) g sets (now (words .exit)) r ⌝ }
+{
     let s = sets.at;
+    let c = sets.count;
     let a = g.area;
     let n = g.fields;
-    let mut p = o;
     let mut k = 0;
     let mut i = 0;
     while i < n {
         let key = held_key(held, a, i);
-        let kept = optional_in_all(starts, words, &s, sets.count, key);
-        p = keep_if(words, p, key, kept);
-        k = add(k, flag(kept));
+        k = put_if(words, o, k, key, optional_in_all(starts, words, &s, c, key));
         i += 1;
     }
     k
 }
 
 // The merged set, stored.
-fn store_merged(starts: &mut [u32], words: &mut [u32], held: &[u32], q: Pass, g: Merging, sets: Members) -> Given {
+fn store_merged(starts: &mut [u32], words: &mut [u32], held: &[u32], q: Pass, g: Merging, sets: Members) -> Given
+    ensures { λ r. ⌜ StoresMerged (now (starts .entry)) (now (words .entry)) (now (held .entry)) q g sets (now (starts .exit)) (now (words .exit)) r ⌝ }
+{
     let s = sets.at;
     let t = arena::top(starts, q);
     let open = open_if_all(starts, words, &s, sets.count);
@@ -318,7 +420,9 @@ fn store_merged(starts: &mut [u32], words: &mut [u32], held: &[u32], q: Pass, g:
 }
 
 // The merged set stored, behind the other members.
-fn merged_last(starts: &mut [u32], words: &mut [u32], held: &[u32], d: Merged, sets: Members, others: Members) -> Listed {
+fn merged_last(starts: &mut [u32], words: &mut [u32], held: &[u32], d: Merged, sets: Members, others: Members) -> Listed
+    ensures { λ r. ⌜ MergedLast (now (starts .entry)) (now (words .entry)) (now (held .entry)) d sets others (now (starts .exit)) (now (words .exit)) r ⌝ }
+{
     match d {
         Merged::On(g, q) => {
             let stored = store_merged(starts, words, held, q, g, sets);
@@ -336,7 +440,9 @@ pub fn merge_attrset_intersection(
     h: u32,
     q: Pass,
     m: Members,
-) -> Listed {
+) -> Listed
+    ensures { λ r. ⌜ MergesSets (now (starts .entry)) (now (words .entry)) (now (held .entry)) h q m (now (starts .exit)) (now (words .exit)) (now (held .exit)) r ⌝ }
+{
     let sets = of_kind(starts, words, m, OutputTy::ATTR_SET, true);
     if sets.count == 0 {
         return Listed {

@@ -9,9 +9,9 @@ use lang_ty::arena;
 use lang_ty::arena::OutputTy;
 use lang_ty::attrset;
 use lang_ty::disjoint;
-ghost use Rattle.rules.specs.Members.{remove-tautological-pairs};
+ghost use Rattle.rules.specs.Members.{remove-tautological-pairs, absorb-subsumed-union-members};
 ghost use Rattle.members.specs.Lists.{Makes, Tests, Asks};
-ghost use Rattle.members.specs.Unions.{negates, hasNegation, Cancels, Covered, FieldsCover, DynCovers, Subsumes};
+ghost use Rattle.members.specs.Unions.{negates, hasNegation, Cancels, Covered, FieldsCover, DynCovers, Subsumes, MarksIf, Takes, MarksTaken, Leaves};
 
 // Whether node m is the Neg of x.
 fn is_negation(starts: &[u32], words: &[u32], m: u32, x: u32) -> bool
@@ -134,27 +134,50 @@ fn subsumes(starts: &[u32], words: &[u32], x: u32, y: u32) -> bool
     fields_cover(words, a, b)
 }
 
-fn mark_if(gone: &mut [u32], j: u32, taken: bool) {
+fn mark_if(gone: &mut [u32], j: u32, taken: bool)
+    ensures { λ _. ⌜ MarksIf (now (gone .entry)) j taken (now (gone .exit)) ⌝ }
+{
     if taken {
         set(gone, j, 1);
     }
 }
 
+// Whether x, the member at place i, takes up the one at place j, which is another and not gone.
+fn takes_up(starts: &[u32], words: &[u32], s: &[u32], i: u32, x: u32, j: u32, gone: &[u32]) -> bool
+    ensures { λ r. ⌜ Takes (now (starts .entry)) (now (words .entry)) (now (s .entry)) i x j (now (gone .entry)) r ⌝ }
+{
+    if i == j {
+        return false;
+    }
+    if at(gone, j) != 0 {
+        return false;
+    }
+    subsumes(starts, words, x, at(s, j))
+}
+
 // Marks in gone the places of the members that the one at place i takes up, if it is a set that is not gone itself.
-fn mark_taken(starts: &[u32], words: &[u32], s: &[u32], n: u32, i: u32, gone: &mut [u32]) {
+fn mark_taken(starts: &[u32], words: &[u32], s: &[u32], n: u32, i: u32, gone: &mut [u32])
+    ensures { λ _. ⌜ MarksTaken (now (starts .entry)) (now (words .entry)) (now (s .entry)) n i (now (gone .entry)) (now (gone .exit)) ⌝ }
+{
+    if at(gone, i) != 0 {
+        return;
+    }
     let x = at(s, i);
-    if at(gone, i) != 0 || !arena::is(starts, words, OutputTy::ATTR_SET, x) {
+    if !arena::is(starts, words, OutputTy::ATTR_SET, x) {
         return;
     }
     let mut j = 0;
     while j < n {
-        mark_if(gone, j, i != j && at(gone, j) == 0 && subsumes(starts, words, x, at(s, j)));
+        let taken = takes_up(starts, words, s, i, x, j, gone);
+        mark_if(gone, j, taken);
         j += 1;
     }
 }
 
 // The members whose places are not gone.
-fn left(m: Members, gone: &[u32]) -> Members {
+fn left(m: Members, gone: &[u32]) -> Members
+    ensures { λ r. ⌜ Leaves m (now (gone .entry)) r ⌝ }
+{
     let ms = m.at;
     let n = m.count;
     let mut out = [0u32; 128];
@@ -168,7 +191,9 @@ fn left(m: Members, gone: &[u32]) -> Members {
 }
 
 // absorb_subsumed_union_members
-pub fn absorb_subsumed_union_members(starts: &[u32], words: &[u32], m: Members) -> Members {
+pub fn absorb_subsumed_union_members(starts: &[u32], words: &[u32], m: Members) -> Members
+    ensures { λ r. ⌜ Makes absorb-subsumed-union-members (now (starts .entry)) (now (words .entry)) m r ⌝ }
+{
     let ms = m.at;
     let n = m.count;
     let mut gone = [0u32; 128];

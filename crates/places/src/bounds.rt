@@ -1,5 +1,5 @@
 // expand_bounds behind its visits.
-use crate::given::Canon;
+use entries::given::Canon;
 use crate::lists::Settled;
 use crate::lists::as_settled;
 use crate::lists::concrete;
@@ -8,6 +8,7 @@ use crate::lists::flattened;
 use crate::lists::settle_listed;
 use crate::lists::settle_union;
 use lang_ty::arena;
+use lang_ty::arena::Found;
 use lang_ty::arena::OutputTy;
 use members::factor;
 use members::intersections;
@@ -15,9 +16,14 @@ use members::lists::Flow;
 use members::lists::Listed;
 use members::merge;
 use rules::Polarity;
+ghost use Rattle.rules.specs.declared.Polarity.the-variants.{Negative};
+ghost use Rattle.places.specs.Places.{Normalizes};
+ghost use Rattle.places.specs.Lists.{SettlesMerged};
 
 // expand_bounds, steps 4 and 5 in a negative place, once the sets are merged; first is the first member before filtering.
-fn settle_merged(starts: &mut [u32], words: &mut [u32], c: Canon, l: Listed, first: u32) -> Settled {
+fn settle_merged(starts: &mut [u32], words: &mut [u32], c: Canon, l: Listed, first: Found) -> Settled
+    ensures { λ r. ⌜ SettlesMerged c (now (starts .entry)) (now (words .entry)) l first (now (starts .exit)) (now (words .exit)) r ⌝ }
+{
     let flow = l.flow;
     match flow {
         Flow::On(q) => {
@@ -42,7 +48,9 @@ fn settle_intersection(
     h: u32,
     n: u32,
     f: Flow,
-) -> Settled {
+) -> Settled
+    ensures { λ r. ⌜ Normalizes (now (facts .entry)) c (now (starts .entry)) (now (words .entry)) (now (work .entry)) h n f Negative (now (starts .exit)) (now (words .exit)) (now (work .exit)) r ⌝ }
+{
     let all = flattened(starts, words, work, h, n, f, OutputTy::INTERSECTION);
     let flow = all.flow;
     match flow {
@@ -66,7 +74,9 @@ pub fn normalize(
     n: u32,
     f: Flow,
     pol: Polarity,
-) -> Settled {
+) -> Settled
+    ensures { λ r. ⌜ Normalizes (now (facts .entry)) c (now (starts .entry)) (now (words .entry)) (now (work .entry)) h n f pol (now (starts .exit)) (now (words .exit)) (now (work .exit)) r ⌝ }
+{
     match pol {
         Polarity::Positive => settle_union(facts, c, starts, words, work, h, n, f, pol),
         Polarity::Negative => settle_intersection(facts, c, starts, words, work, h, n, f),

@@ -4,3 +4,10 @@ pub mod Rows
 pub mod Storing
 pub mod Shapes
 pub mod Ordering
+pub mod Filtering
+pub mod Keeping
+pub mod Loading
+pub mod Rooting
+pub mod Moving
+pub mod Caching
+pub mod Chaining

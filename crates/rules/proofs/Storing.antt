@@ -38,7 +38,7 @@ pub keep-new : (n : Node) (st : State) → length (st .nodes) < mostNodes → st
 keep-new n st h k = ap₂ (λ (b c : Bool). behind b c n st) (lt-ltb (length (st .nodes)) mostNodes h) (le-ltb mostCells (st .cells + cellsOf n) k)
 
 -- what tells two constructors apart
-true-false : {A : Type 0} → true ≡ false → A
+pub true-false : {A : Type 0} → true ≡ false → A
 true-false e = let z : _≡_ {A = ℕ} 0 1 = cc in absurd (omega arith)
 
 -- lists that the test calls equal, are equal

@@ -10,3 +10,4 @@ pub mod Listing
 pub mod Calls
 pub mod Numbers
 pub mod Examples
+pub mod Sound

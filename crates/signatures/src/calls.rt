@@ -7,7 +7,7 @@ use crate::roots::Given;
 use cells::small;
 use cells::wipe;
 use cells::wipe_bytes;
-use lang_check::collect::Work;
+use entries::given::Work;
 use table::Answer;
 use table::Table;
 

@@ -18,7 +18,7 @@ use cells::wipe_bytes;
 use edits::compare;
 use edits::reach;
 use edits::reach::Spans;
-use lang_check::collect::Work;
+use entries::given::Work;
 use listing::lines;
 use listing::old;
 use listing::old::Old;

@@ -7,11 +7,11 @@ use cells::put;
 use cells::small;
 use lang_check::collect;
 use lang_check::collect::RootAnswer;
-use lang_check::equiv;
+use entries::equiv;
 use listing::lines;
 use listing::lines::Head;
-use places::given::Canon;
-use places::given::Facts;
+use entries::given::Canon;
+use entries::given::Facts;
 use rules::Polarity;
 use table::Table;
 

@@ -1,7 +1,12 @@
+use mathlib.Core.Path.{_∙_}
+use Rattle.lang_check.proofs.Visiting.{visits-bailed, visits-over, visits-busy, visits-cached, visits-full, visits-works}
+use Rattle.lang_check.proofs.Expanding.{gathers, expands-node, expands-empty, expands-refused, falls-spent, falls-cut, falls-on, inner-named, inner-variable, inner-bounds}
+use Rattle.lang_check.proofs.Intering.{inters, retries, again-node, again-refused, again-bottom, again-retry}
+use Rattle.lang_check.proofs.Eaching.{Eaching, eaching-start, eaching-more, each-refused, each-done}
+use Rattle.lang_check.proofs.Ruling.{children as makes-children, rules-variable, rules-inter, rules-made}
+use borrow.Author.Tests.{not-true, not-false}
 use native.Mathlib.Omega.{arith}
 use borrow.Author.Needs.{needs}
-use mathlib.Core.Path.{_≡_, _∙_}
-use lib.ListN.{length}
 use Prim.Native.Nat.{ℕ, _<_, _*_, _+_, _-_, _≤_}
 use borrow.Fn.Kinds.{In}
 use borrow.Fn.PlainCycle.{Measures, is, falls, and}
@@ -44,30 +49,33 @@ use Rattle.cells.proofs.get.Reads as get-reads
 use Rattle.cells.proofs.place.Reads as place-reads
 use Rattle.cells.proofs.put.Reads as put-reads
 use Rattle.cells.proofs.set.Reads as set-reads
-use Rattle.lang_check.proofs.collect.bail.Reads as bail-reads
-use Rattle.lang_check.proofs.collect.began.Reads as began-reads
-use Rattle.lang_check.proofs.collect.begin.Reads as begin-reads
-use Rattle.lang_check.proofs.collect.begin_list.Reads as begin-list-reads
-use Rattle.lang_check.proofs.collect.count_one.Reads as count-one-reads
-use Rattle.lang_check.proofs.collect.deduplicated.Reads as deduplicated-reads
-use Rattle.lang_check.proofs.collect.exceeds.Reads as exceeds-reads
-use Rattle.lang_check.proofs.collect.expanded.Reads as expanded-reads
-use Rattle.lang_check.proofs.collect.first_polarity.Reads as first-polarity-reads
-use Rattle.lang_check.proofs.collect.hold_children.Reads as hold-children-reads
-use Rattle.lang_check.proofs.collect.hold_two.Reads as hold-two-reads
-use Rattle.lang_check.proofs.collect.made.Reads as made-reads
-use Rattle.lang_check.proofs.collect.named_bound.Reads as named-bound-reads
-use Rattle.lang_check.proofs.collect.none_begun.Reads as none-begun-reads
-use Rattle.lang_check.proofs.collect.note.Reads as note-reads
-use Rattle.lang_check.proofs.collect.own_bounds.Reads as own-bounds-reads
-use Rattle.lang_check.proofs.collect.retried.Reads as retried-reads
-use Rattle.lang_check.proofs.collect.slot.Reads as slot-reads
-use Rattle.lang_check.proofs.collect.turned.Reads as turned-reads
-use Rattle.lang_check.proofs.collect.variable.Reads as variable-reads
-use Rattle.lang_check.proofs.storage.entry_at.Reads as entry-at-reads
-use Rattle.lang_check.proofs.storage.is_variable.Reads as is-variable-reads
-use Rattle.places.proofs.bounds.normalize.Reads as normalize-reads
+use Rattle.entries.proofs.held.begin_list.Reads as begin-list-reads
+use Rattle.entries.proofs.held.deduplicated.Reads as deduplicated-reads
+use Rattle.entries.proofs.held.first_polarity.Reads as first-polarity-reads
+use Rattle.entries.proofs.held.hold_children.Reads as hold-children-reads
+use Rattle.entries.proofs.held.hold_two.Reads as hold-two-reads
+use Rattle.entries.proofs.held.own_bounds.Reads as own-bounds-reads
+use Rattle.entries.proofs.marks.bail.Reads as bail-reads
+use Rattle.entries.proofs.marks.begin.Reads as begin-reads
+use Rattle.entries.proofs.marks.count_one.Reads as count-one-reads
+use Rattle.entries.proofs.marks.exceeds.Reads as exceeds-reads
+use Rattle.entries.proofs.marks.none_begun.Reads as none-begun-reads
+use Rattle.entries.proofs.marks.note.Reads as note-reads
+use Rattle.entries.proofs.marks.slot.Reads as slot-reads
+use Rattle.entries.proofs.storage.entry_at.Reads as entry-at-reads
+use Rattle.entries.proofs.storage.named_bound.Reads as named-bound-reads
+use Rattle.entries.proofs.storage.turned.Reads as turned-reads
+use Rattle.entries.proofs.vars.expanded.Reads as expanded-reads
+use Rattle.entries.proofs.vars.variable.Reads as variable-reads
+use Rattle.lang_check.proofs.collect.cached.Reads as cached-reads
+use Rattle.lang_check.proofs.collect.either_variable.Reads as either-variable-reads
+use Rattle.lang_check.proofs.collect.is_cut.Reads as is-cut-reads
+use Rattle.lang_check.proofs.collect.side.Reads as side-reads
+use Rattle.lang_check.proofs.made.made.Reads as made-reads
+use Rattle.lang_check.proofs.made.retried.Reads as retried-reads
+use Rattle.lang_ty.proofs.arena.store_leaf.Reads as store-leaf-reads
 use Rattle.places.proofs.concrete.inter_tried.Reads as inter-tried-reads
+use Rattle.places.proofs.bounds.normalize.Reads as normalize-reads
 use Rattle.rules.proofs.Polarity.flip.Reads as flip-reads
 use Rattle.lang_check.proofs.collect.+again+children+each+expand+fallback+gathered+inner+inter+retry+rule+visit.{
   statement,
@@ -180,7 +188,7 @@ visit-below t = and 6 visit-kinds.ps (falls 6 visit-kinds.ps _<_ μ-visit t) vis
 
 -- what `again` is told of the functions that it calls
 abbrev again-calls : ℕ → again-lts.Claims
-again-calls t = (retried-reads.Asked, retried-reads.Learnt, is-variable-reads.Asked, is-variable-reads.Learnt, retry-below t, retry.Post)
+again-calls t = (either-variable-reads.Asked, either-variable-reads.Learnt, store-leaf-reads.Asked, store-leaf-reads.Learnt, retry-below t, retry.Post)
 
 -- what `children` is told of the functions that it calls
 abbrev children-calls : ℕ → children-lts.Claims
@@ -188,7 +196,7 @@ children-calls t = (hold-children-reads.Asked, hold-children-reads.Learnt, first
 
 -- what `each` is told of the functions that it calls
 abbrev each-calls : ℕ → each-lts.Claims
-each-calls t = (place-reads.Asked, place-reads.Learnt, get-reads.Asked, get-reads.Learnt, add-reads.Asked, add-reads.Learnt, visit-below t, visit.Post, put-reads.Asked, put-reads.Learnt)
+each-calls t = (place-reads.Asked, place-reads.Learnt, get-reads.Asked, get-reads.Learnt, add-reads.Asked, add-reads.Learnt, side-reads.Asked, side-reads.Learnt, visit-below t, visit.Post, put-reads.Asked, put-reads.Learnt)
 
 -- what `expand` is told of the functions that it calls
 abbrev expand-calls : ℕ → expand-lts.Claims
@@ -196,7 +204,7 @@ expand-calls t = (gathered-below t, gathered.Post, fallback-below t, fallback.Po
 
 -- what `fallback` is told of the functions that it calls
 abbrev fallback-calls : ℕ → fallback-lts.Claims
-fallback-calls t = (variable-reads.Asked, variable-reads.Learnt, begin-list-reads.Asked, begin-list-reads.Learnt, began-reads.Asked, began-reads.Learnt, begin-reads.Asked, begin-reads.Learnt, flip-reads.Asked, flip-reads.Learnt, expand-below t, expand.Post)
+fallback-calls t = (variable-reads.Asked, variable-reads.Learnt, begin-list-reads.Asked, begin-list-reads.Learnt, is-cut-reads.Asked, is-cut-reads.Learnt, begin-reads.Asked, begin-reads.Learnt, flip-reads.Asked, flip-reads.Learnt, expand-below t, expand.Post)
 
 -- what `gathered` is told of the functions that it calls
 abbrev gathered-calls : ℕ → gathered-lts.Claims
@@ -220,22 +228,78 @@ rule-calls t = (entry-at-reads.Asked, entry-at-reads.Learnt, inner-below t, inne
 
 -- what `visit` is told of the functions that it calls
 abbrev visit-calls : ℕ → visit-lts.Claims
-visit-calls t = (variable-reads.Asked, variable-reads.Learnt, count-one-reads.Asked, count-one-reads.Learnt, exceeds-reads.Asked, exceeds-reads.Learnt, bail-reads.Asked, bail-reads.Learnt, slot-reads.Asked, slot-reads.Learnt, at-reads.Asked, at-reads.Learnt, set-reads.Asked, set-reads.Learnt, rule-below t, rule.Post, add-reads.Asked, add-reads.Learnt)
+visit-calls t = (variable-reads.Asked, variable-reads.Learnt, count-one-reads.Asked, count-one-reads.Learnt, exceeds-reads.Asked, exceeds-reads.Learnt, bail-reads.Asked, bail-reads.Learnt, slot-reads.Asked, slot-reads.Learnt, at-reads.Asked, at-reads.Learnt, set-reads.Asked, set-reads.Learnt, rule-below t, rule.Post, cached-reads.Asked, cached-reads.Learnt)
+
+again-returns : (t : ℕ) → again-lts.Need-returns (again-calls t) (again-at t) again.Post
+again-returns t c = again-bottom (c .before .before .before .before .before .before .before .before .before .before .t2 .given .1) (c .before .before .before .before .before .before .before .before .either-variable .ensures) (not-true _ (c .before .before .before .before .before .before .before .if1 .taken)) (c .before .before .before .before .store-leaf .ensures)
+
+again-returns-2 : (t : ℕ) → again-lts.Need-returns-2 (again-calls t) (again-at t) again.Post
+again-returns-2 t c = again-node (c .before .t .given .1)
+
+again-returns-3 : (t : ℕ) → again-lts.Need-returns-3 (again-calls t) (again-at t) again.Post
+again-returns-3 t c = again-retry (c .before .before .before .before .before .before .before .before .before .before .before .before .before .t2 .given .1) (c .before .before .before .before .before .before .before .before .before .before .before .either-variable .ensures) (not-false _ (c .before .before .before .before .before .before .before .before .before .before .if1 .left)) (c .before .before .before .before .before .before .retry .ensures)
+
+again-returns-4 : (t : ℕ) → again-lts.Need-returns-4 (again-calls t) (again-at t) again.Post
+again-returns-4 t c = again-refused (c .before .t3 .given .1)
+
+children-returns : (t : ℕ) → children-lts.Need-returns (children-calls t) (children-at t) children.Post
+children-returns t c = search makes-children
 
 abbrev each-Inv-loop : each-lts.InvT-loop
-each-Inv-loop rows table facts c starts₀ words₀ work₀ free h n first pol q₀ i₀ starts words work q i = (i ≤ n) × (n ≤ 4294967295) × (length starts ≡ length starts₀) × (length words ≡ length words₀) × (length work ≡ length work₀)
+each-Inv-loop rows table facts c starts₀ words₀ work₀ free h n first pol q₀ i₀ starts words work q i =
+    (n ≤ 4294967295) × Eaching rows table facts c starts₀ words₀ work₀ free h q₀ n first pol starts words work q i
 
 abbrev each-μ-loop : each-lts.MeasureT-loop
-each-μ-loop rows table facts c starts₀ words₀ work₀ free h n first pol q₀ i₀ starts words work q i = n - i
+each-μ-loop rows table facts c starts₀ words₀ work₀ free h n first pol q₀ i₀ starts words work q i =
+    n - i
+
+each-loop-holds : (t : ℕ) → each-lts.Need-loop-holds (each-calls t) (each-at t) each.Post each-Inv-loop each-μ-loop
+each-loop-holds t c = (search needs, eaching-start)
 
 each-add-i : (t : ℕ) → each-lts.Need-add-i (each-calls t) (each-at t) each.Post each-Inv-loop each-μ-loop
-each-add-i t c = omega (arith, c .before .before .before .before .before .before .before .before .before .before .before .before .before .before .before .before .before .before .before .before .before .before .before .before .loop .inv .0, c .before .before .before .before .before .before .before .before .before .before .before .before .before .before .before .before .before .before .before .before .before .before .before .before .loop .inv .1, c .before .before .before .before .before .before .before .before .before .before .before .before .before .before .before .before .before .before .before .before .before .before .before .loop-test .taken)
+each-add-i t c = omega (arith, c .before .before .before .before .before .before .before .before .before .before .before .before .before .before .before .before .before .before .before .before .before .before .before .before .loop .inv .0, c .before .before .before .before .before .before .before .before .before .before .before .before .before .before .before .before .before .before .before .before .before .before .before .loop-test .taken)
 
 each-loop-again : (t : ℕ) → each-lts.Need-loop-again (each-calls t) (each-at t) each.Post each-Inv-loop each-μ-loop
-each-loop-again t c = (omega (arith, c .before .before .before .before .before .before .before .before .before .before .before .before .before .before .before .before .before .before .before .before .before .before .before .loop-test .taken), c .before .before .before .before .before .before .before .before .before .before .before .before .before .before .before .before .before .before .before .before .before .before .before .before .loop .inv .1, c .before .before .before .before .before .before .before .before .before .before .before .before .before .before .visit .kept .1 .1 .1 .1 .0 ∙ c .before .before .before .before .before .before .before .before .before .before .before .before .before .before .before .before .before .before .before .before .before .before .before .before .loop .inv .2, c .before .before .before .before .before .before .before .before .before .before .before .before .before .before .visit .kept .1 .1 .1 .1 .1 .0 ∙ c .before .before .before .before .before .before .before .before .before .before .before .before .before .before .before .before .before .before .before .before .before .before .before .before .loop .inv .3, c .before .before .put .kept .0 ∙ c .before .before .before .before .before .before .before .before .before .before .before .before .before .before .visit .kept .1 .1 .1 .1 .1 .1 .0 ∙ c .before .before .before .before .before .before .before .before .before .before .before .before .before .before .before .before .before .before .before .before .before .before .before .before .loop .inv .4)
+each-loop-again t c = (c .before .before .before .before .before .before .before .before .before .before .before .before .before .before .before .before .before .before .before .before .before .before .before .before .loop .inv .0, eaching-more (c .before .before .before .before .before .before .before .before .before .before .before .before .before .before .before .before .before .before .before .before .before .before .before .before .loop .inv .1) (c .before .before .before .before .before .before .before .before .before .before .before .before .before .before .before .before .before .before .before .before .before .before .before .loop-test .taken) (c .before .before .before .before .before .before .before .before .before .before .before .before .before .before .before .before .before .before .before .before .before .place .ensures) (c .before .before .before .before .before .before .before .before .before .before .before .before .before .before .before .before .before .before .before .before .get .ensures) (c .before .before .before .before .before .before .before .before .before .before .before .before .before .before .before .before .add .ensures) (c .before .before .before .before .before .before .before .before .before .before .before .before .before .before .before .side .ensures) (c .before .before .before .before .before .before .before .before .before .before .before .before .before .before .visit .ensures) (c .before .before .before .before .before .before .x .given .1) (c .before .before .before .before .before .before .before .before .before .before .before .before .before .before .visit .kept .1 .1 .1 .1 .0) (c .before .before .before .before .before .before .before .before .before .before .before .before .before .before .visit .kept .1 .1 .1 .1 .1 .0) (c .before .before .before .before .before .before .before .before .before .before .before .before .before .before .visit .kept .1 .1 .1 .1 .1 .1 .0) (c .before .before .before .place2 .ensures) (c .before .before .put .ensures))
+
+each-returns : (t : ℕ) → each-lts.Need-returns (each-calls t) (each-at t) each.Post each-Inv-loop each-μ-loop
+each-returns t c = each-refused (c .before .before .before .before .before .before .before .before .before .before .before .before .before .before .before .before .before .before .before .loop .inv .1) (c .before .before .before .before .before .before .before .before .before .before .before .before .before .before .before .before .before .before .loop-test .taken) (c .before .before .before .before .before .before .before .before .before .before .before .before .before .before .before .before .place .ensures) (c .before .before .before .before .before .before .before .before .before .before .before .before .before .before .before .get .ensures) (c .before .before .before .before .before .before .before .before .before .before .before .add .ensures) (c .before .before .before .before .before .before .before .before .before .before .side .ensures) (c .before .before .before .before .before .before .before .before .before .visit .ensures) (c .before .k .given .1)
+
+each-returns-2 : (t : ℕ) → each-lts.Need-returns-2 (each-calls t) (each-at t) each.Post each-Inv-loop each-μ-loop
+each-returns-2 t c = each-done (c .before .loop .inv .1) (c .loop-test .left)
+
+expand-returns : (t : ℕ) → expand-lts.Need-returns (expand-calls t) (expand-at t) expand.Post
+expand-returns t c = expands-node (c .before .before .before .before .before .before .before .before .before .gathered .ensures) (c .before .x .given .1)
+
+expand-returns-2 : (t : ℕ) → expand-lts.Need-returns-2 (expand-calls t) (expand-at t) expand.Post
+expand-returns-2 t c = expands-empty (c .before .before .before .before .before .before .before .before .before .before .before .before .before .before .before .before .before .before .before .gathered .ensures) (c .before .before .before .before .before .before .before .before .before .before .before .r .given .1) (c .before .before .before .before .before .before .before .before .before .before .before .before .before .before .before .before .before .before .before .gathered .kept .1 .1 .1 .1 .1 .1 .0) (c .before .before .before .before .before .before .fallback .ensures)
+
+expand-returns-3 : (t : ℕ) → expand-lts.Need-returns-3 (expand-calls t) (expand-at t) expand.Post
+expand-returns-3 t c = expands-refused (c .before .before .before .before .before .before .before .before .before .gathered .ensures) (c .before .k .given .1)
+
+fallback-returns : (t : ℕ) → fallback-lts.Need-returns (fallback-calls t) (fallback-at t) fallback.Post
+fallback-returns t c = falls-spent (c .before .before .before .before .before .before .before .if1 .taken) (c .before .before .before .before .variable .ensures)
+
+fallback-returns-2 : (t : ℕ) → fallback-lts.Need-returns-2 (fallback-calls t) (fallback-at t) fallback.Post
+fallback-returns-2 t c = falls-cut (c .before .before .before .before .before .before .before .before .before .before .before .before .before .if1 .left) (c .before .before .before .before .before .before .before .before .before .before .before .begin-list .ensures) (c .before .before .before .before .before .before .before .before .is-cut .ensures) (c .before .before .before .before .before .before .before .if2 .taken) (c .before .before .before .before .variable2 .ensures)
+
+fallback-returns-3 : (t : ℕ) → fallback-lts.Need-returns-3 (fallback-calls t) (fallback-at t) fallback.Post
+fallback-returns-3 t c = falls-on (c .before .before .before .before .before .before .before .before .before .before .before .before .before .before .before .before .before .before .if1 .left) (c .before .before .before .before .before .before .before .before .before .before .before .before .before .before .before .before .begin-list .ensures) (c .before .before .before .before .before .before .before .before .before .before .before .before .before .before .before .before .begin-list .kept .1 .1 .1 .1 .0) (c .before .before .before .before .before .before .before .before .before .before .before .before .before .is-cut .ensures) (c .before .before .before .before .before .before .before .before .before .before .before .before .if2 .left) (c .before .before .before .before .before .before .before .before .before .before .before .begin .ensures) (c .before .before .before .before .before .before .before .flip .ensures) (c .before .before .before .before .before .before .expand .ensures)
+
+gathered-returns : (t : ℕ) → gathered-lts.Need-returns (gathered-calls t) (gathered-at t) gathered.Post
+gathered-returns t c = gathers (c .before .before .before .before .before .before .before .before .before .before .before .before .before .before .before .before .before .before .before .before .before .before .deduplicated .ensures) (c .before .before .before .before .before .before .before .before .before .before .before .before .before .before .before .before .before .before .before .before .before .before .deduplicated .kept .0) (c .before .before .before .before .before .before .before .before .before .before .before .before .before .before .before .before .each .ensures) (c .before .before .before .before .before .before .before .before .before .before .before .before .before .before .before .before .each .kept .1 .1 .1 .1 .1 .1 .0) (c .before .before .before .before .before .before .normalize .ensures)
+
+inner-returns : (t : ℕ) → inner-lts.Need-returns (inner-calls t) (inner-at t) inner.Post
+inner-returns t c = inner-named (c .before .before .before .before .before .before .before .before .before .before .before .before .before .named-bound .ensures) (c .before .before .before .before .before .before .before .before .before .before .before .b .given .1) (c .before .before .before .before .before .before .visit .ensures)
+
+inner-returns-2 : (t : ℕ) → inner-lts.Need-returns-2 (inner-calls t) (inner-at t) inner.Post
+inner-returns-2 t c = search inner-variable
 
 inner-same-length-9 : (t : ℕ) → inner-lts.Need-same-length-9 (inner-calls t) (inner-at t) inner.Post
 inner-same-length-9 t c = c .before .before .before .before .before .before .before .before .before .before .before .before .before .expand .kept .1 .1 .1 .1 .1 .1 .0 ∙ c .before .before .before .before .before .before .before .before .before .before .before .before .before .before .before .before .before .before .before .before .before .before .before .own-bounds .kept .1 .1 .1 .1 .0 ∙ c .before .before .before .before .before .before .before .before .before .before .before .before .before .before .before .before .before .before .before .before .before .before .before .before .before .before .before .note .kept .1 .1 .0
+
+inner-returns-3 : (t : ℕ) → inner-lts.Need-returns-3 (inner-calls t) (inner-at t) inner.Post
+inner-returns-3 t c = inner-bounds (c .before .before .before .before .before .before .before .before .before .before .before .before .before .before .before .before .before .before .before .before .before .before .before .before .before .before .before .before .before .before .before .named-bound .ensures) (search (c .before .before .before .before .before .before .before .before .before .before .before .before .before .before .before .before .before .before .before .before .before .before .before .before .before .before .before .before .before .enum-told .given)) (c .before .before .before .before .before .before .before .before .before .before .before .before .before .before .before .before .before .before .before .before .before .before .before .before .before .before .before .note .ensures) (c .before .before .before .before .before .before .before .before .before .before .before .before .before .before .before .before .before .before .before .before .before .before .before .own-bounds .ensures) (c .before .before .before .before .before .before .before .before .before .before .before .before .before .before .before .before .before .before .before .n .given .1) (c .before .before .before .before .before .before .before .before .before .before .before .before .before .before .before .before .before .before .before .before .before .before .before .own-bounds .kept .1 .1 .1 .1 .0) (c .before .before .before .before .before .before .before .before .before .before .before .before .before .before .none-begun .ensures) (c .before .before .before .before .before .before .before .before .before .before .before .before .before .expand .ensures) (c .before .before .before .before .expanded .ensures)
 
 inter-again-requires : (t : ℕ) → inter-lts.Need-again-requires (inter-calls t) (inter-at t) inter.Post
 inter-again-requires t c κs = (omega (arith, c .before .before .before .before .before .before .before .before .before .before .before .before .before .before .before .before .before .before .before .before .before .before .before .before .before .before .before .before .before .before .before .before .before .pre .0), tt)
@@ -243,8 +307,41 @@ inter-again-requires t c κs = (omega (arith, c .before .before .before .before 
 inter-same-length-3 : (t : ℕ) → inter-lts.Need-same-length-3 (inter-calls t) (inter-at t) inter.Post
 inter-same-length-3 t c = c .before .before .before .before .before .before .again .kept .1 .1 .1 .1 .1 .1 .0 ∙ c .before .before .before .before .before .before .before .before .before .before .before .before .before .before .before .before .inter-tried .kept .1 .1 .1 .1 .0 ∙ c .before .before .before .before .before .before .before .before .before .before .before .before .before .before .before .before .before .before .before .before .before .before .before .before .before .before .each .kept .1 .1 .1 .1 .1 .1 .0 ∙ c .before .before .before .before .before .before .before .before .before .before .before .before .before .before .before .before .before .before .before .before .before .before .before .before .before .before .before .before .before .before .before .before .hold-two .kept .0
 
+inter-returns : (t : ℕ) → inter-lts.Need-returns (inter-calls t) (inter-at t) inter.Post
+inter-returns t c = inters (c .before .before .before .before .before .before .before .before .before .before .before .before .before .before .before .before .before .before .before .before .before .before .before .before .before .before .before .before .before .before .before .before .hold-two .ensures) (c .before .before .before .before .before .before .before .before .before .before .before .before .before .before .before .before .before .before .before .before .before .before .before .before .before .before .each .ensures) (c .before .before .before .before .before .before .before .before .before .before .before .before .before .before .before .before .inter-tried .ensures) (c .before .before .before .before .before .before .again .ensures) (c .before .before .before .before .before .before .before .before .before .before .before .before .before .before .before .before .before .before .before .before .before .before .before .before .before .before .before .before .before .before .before .before .hold-two .kept .0) (c .before .before .before .before .before .before .before .before .before .before .before .before .before .before .before .before .before .before .before .before .before .before .before .before .before .before .each .kept .1 .1 .1 .1 .1 .1 .0) (c .before .before .before .before .before .before .before .before .before .before .before .before .before .before .before .before .inter-tried .kept .1 .1 .1 .1 .0)
+
 retry-same-length-3 : (t : ℕ) → retry-lts.Need-same-length-3 (retry-calls t) (retry-at t) retry.Post
 retry-same-length-3 t c = c .before .before .before .before .before .before .before .before .before .before .before .before .before .inter-tried .kept .1 .1 .1 .1 .0 ∙ c .before .before .before .before .before .before .before .before .before .before .before .before .before .before .before .before .before .before .before .before .before .before .before .each .kept .1 .1 .1 .1 .1 .1 .0 ∙ c .before .before .before .before .before .before .before .before .before .before .before .before .before .before .before .before .before .before .before .before .before .before .before .before .before .before .before .before .before .before .before .hold-two .kept .0
+
+retry-returns : (t : ℕ) → retry-lts.Need-returns (retry-calls t) (retry-at t) retry.Post
+retry-returns t c = retries (c .before .before .before .before .before .before .before .before .before .before .before .before .before .before .before .before .before .before .before .before .before .before .before .before .before .before .before .before .before .before .before .hold-two .ensures) (c .before .before .before .before .before .before .before .before .before .before .before .before .before .before .before .before .before .before .before .before .before .before .before .before .before .before .before .before .turned .ensures) (c .before .before .before .before .before .before .before .before .before .before .before .before .before .before .before .before .before .before .before .before .before .before .before .before .before .before .before .turned2 .ensures) (c .before .before .before .before .before .before .before .before .before .before .before .before .before .before .before .before .before .before .before .before .before .before .before .each .ensures) (c .before .before .before .before .before .before .before .before .before .before .before .before .before .inter-tried .ensures) (c .before .before .before .before .retried .ensures) (c .before .before .before .before .before .before .before .before .before .before .before .before .before .before .before .before .before .before .before .before .before .before .before .before .before .before .before .before .before .before .before .hold-two .kept .0) (c .before .before .before .before .before .before .before .before .before .before .before .before .before .before .before .before .before .before .before .before .before .before .before .each .kept .1 .1 .1 .1 .1 .1 .0) (c .before .before .before .before .before .before .before .before .before .before .before .before .before .inter-tried .kept .1 .1 .1 .1 .0)
+
+rule-returns : (t : ℕ) → rule-lts.Need-returns (rule-calls t) (rule-at t) rule.Post
+rule-returns t c = search rules-variable
+
+rule-returns-2 : (t : ℕ) → rule-lts.Need-returns-2 (rule-calls t) (rule-at t) rule.Post
+rule-returns-2 t c = search rules-inter
+
+rule-returns-3 : (t : ℕ) → rule-lts.Need-returns-3 (rule-calls t) (rule-at t) rule.Post
+rule-returns-3 t c = search rules-made
+
+visit-returns : (t : ℕ) → visit-lts.Need-returns (visit-calls t) (visit-at t) visit.Post
+visit-returns t c = visits-bailed (c .before .before .before .before .before .before .before .if1 .taken) (c .before .before .before .before .variable .ensures)
+
+visit-returns-2 : (t : ℕ) → visit-lts.Need-returns-2 (visit-calls t) (visit-at t) visit.Post
+visit-returns-2 t c = visits-over (c .before .before .before .before .before .before .before .before .before .before .before .if1 .left) (c .before .before .before .before .before .before .before .before .before .before .count-one .ensures) (c .before .before .before .before .before .before .before .before .before .exceeds .ensures) (c .before .before .before .before .before .before .before .before .if2 .taken) (c .before .before .before .before .before .bail .ensures) (c .before .before .before .before .variable2 .ensures)
+
+visit-returns-3 : (t : ℕ) → visit-lts.Need-returns-3 (visit-calls t) (visit-at t) visit.Post
+visit-returns-3 t c = visits-busy (c .before .before .before .before .before .before .before .before .before .before .before .before .before .before .if1 .left) (c .before .before .before .before .before .before .before .before .before .before .before .before .before .count-one .ensures) (c .before .before .before .before .before .before .before .before .before .before .before .before .exceeds .ensures) (c .before .before .before .before .before .before .before .before .before .before .before .if2 .left) (c .before .before .before .before .before .before .before .before .before .before .slot .ensures) (c .before .before .before .before .before .before .before .before .at .ensures) (c .before .before .before .before .before .before .before .if3 .taken) (c .before .before .before .before .variable3 .ensures)
+
+visit-returns-4 : (t : ℕ) → visit-lts.Need-returns-4 (visit-calls t) (visit-at t) visit.Post
+visit-returns-4 t c = visits-cached (c .before .before .before .before .before .before .before .before .if1 .left) (c .before .before .before .before .before .before .before .count-one .ensures) (c .before .before .before .before .before .before .exceeds .ensures) (c .before .before .before .before .before .if2 .left) (c .before .before .before .before .slot .ensures) (c .before .before .at .ensures) (c .if4 .taken)
+
+visit-returns-5 : (t : ℕ) → visit-lts.Need-returns-5 (visit-calls t) (visit-at t) visit.Post
+visit-returns-5 t c = visits-full (c .before .before .before .before .before .before .before .before .before .if1 .left) (c .before .before .before .before .before .before .before .before .count-one .ensures) (c .before .before .before .before .before .before .before .exceeds .ensures) (c .before .before .before .before .before .before .if2 .left) (c .before .before .before .before .before .slot .ensures) (c .before .before .before .at .ensures) (c .before .before .if3 .left) (c .before .if4 .left) (c .if5 .taken)
+
+visit-returns-6 : (t : ℕ) → visit-lts.Need-returns-6 (visit-calls t) (visit-at t) visit.Post
+visit-returns-6 t c = visits-works (c .before .before .before .before .before .before .before .before .before .before .before .before .before .before .before .before .before .before .before .before .before .before .before .before .before .before .before .if1 .left) (c .before .before .before .before .before .before .before .before .before .before .before .before .before .before .before .before .before .before .before .before .before .before .before .before .before .before .count-one .ensures) (c .before .before .before .before .before .before .before .before .before .before .before .before .before .before .before .before .before .before .before .before .before .before .before .before .before .exceeds .ensures) (c .before .before .before .before .before .before .before .before .before .before .before .before .before .before .before .before .before .before .before .before .before .before .before .before .if2 .left) (c .before .before .before .before .before .before .before .before .before .before .before .before .before .before .before .before .before .before .before .before .before .before .before .slot .ensures) (c .before .before .before .before .before .before .before .before .before .before .before .before .before .before .before .before .before .before .before .before .before .at .ensures) (c .before .before .before .before .before .before .before .before .before .before .before .before .before .before .before .before .before .before .before .before .if3 .left) (c .before .before .before .before .before .before .before .before .before .before .before .before .before .before .before .before .before .before .before .if4 .left) (c .before .before .before .before .before .before .before .before .before .before .before .before .before .before .before .before .before .before .if5 .left) (c .before .before .before .before .before .before .before .before .before .before .before .before .before .before .before .before .set .ensures) (c .before .before .before .before .before .before .before .before .before .before .rule .ensures) (c .before .before .before .before .before .before .before .before .before .before .rule .kept .1 .1 .1 .1 .1 .1 .0) (c .before .before .cached .ensures)
 
 pub +again+children+each+expand+fallback+gathered+inner+inter+retry+rule+visit-spec :
     {M : Type 1} → statement M
@@ -265,21 +362,20 @@ pub +again+children+each+expand+fallback+gathered+inner+inter+retry+rule+visit-s
     (again-at t)
     again.Post
     (λ c. search needs)
-    (λ c _. search needs)
-    (λ c. search needs)
-    (λ c. search needs)
     (λ c. search needs)
     (λ c _. search needs)
     (λ c _. search needs)
+    (λ c. search needs)
+    (λ c. search needs)
+    (again-returns t)
     (λ c _. search needs)
     (λ c. search needs)
-    (λ c. search needs)
-    (λ c. search needs)
-    (λ c _. search needs)
+    (again-returns-2 t)
     (λ c. search needs)
     (λ c. search needs)
     (λ c. search needs)
-    (λ c. search needs))
+    (again-returns-3 t)
+    (again-returns-4 t))
     (λ t. children-lts.spec (children-calls t)
     (children-at t)
     children.Post
@@ -289,13 +385,14 @@ pub +again+children+each+expand+fallback+gathered+inner+inter+retry+rule+visit-s
     (λ c. search needs)
     (λ c. search needs)
     (λ c. search needs)
-    (λ c. search needs))
+    (children-returns t))
     (λ t. each-lts.spec (each-calls t)
     (each-at t)
     each.Post
     each-Inv-loop
     each-μ-loop
-    (λ c. search needs)
+    (each-loop-holds t)
+    (λ c _. search needs)
     (λ c _. search needs)
     (λ c _. search needs)
     (λ c _. search needs)
@@ -310,11 +407,11 @@ pub +again+children+each+expand+fallback+gathered+inner+inter+retry+rule+visit-s
     (λ c. search needs)
     (λ c. search needs)
     (λ c. search needs)
+    (each-returns t)
     (λ c. search needs)
     (λ c. search needs)
     (λ c. search needs)
-    (λ c. search needs)
-    (λ c. search needs))
+    (each-returns-2 t))
     (λ t. expand-lts.spec (expand-calls t)
     (expand-at t)
     expand.Post
@@ -326,29 +423,29 @@ pub +again+children+each+expand+fallback+gathered+inner+inter+retry+rule+visit-s
     (λ c. search needs)
     (λ c. search needs)
     (λ c. search needs)
+    (expand-returns t)
     (λ c. search needs)
     (λ c. search needs)
     (λ c. search needs)
+    (expand-returns-2 t)
     (λ c. search needs)
     (λ c. search needs)
     (λ c. search needs)
-    (λ c. search needs)
-    (λ c. search needs)
-    (λ c. search needs))
+    (expand-returns-3 t))
     (λ t. fallback-lts.spec (fallback-calls t)
     (fallback-at t)
     fallback.Post
     (λ c _. search needs)
     (λ c. search needs)
     (λ c. search needs)
-    (λ c. search needs)
+    (fallback-returns t)
     (λ c _. search needs)
     (λ c _. search needs)
     (λ c _. search needs)
     (λ c. search needs)
     (λ c. search needs)
     (λ c. search needs)
-    (λ c. search needs)
+    (fallback-returns-2 t)
     (λ c _. search needs)
     (λ c. search needs)
     (λ c _. search needs)
@@ -356,7 +453,7 @@ pub +again+children+each+expand+fallback+gathered+inner+inter+retry+rule+visit-s
     (λ c. search needs)
     (λ c. search needs)
     (λ c. search needs)
-    (λ c. search needs))
+    (fallback-returns-3 t))
     (λ t. gathered-lts.spec (gathered-calls t)
     (gathered-at t)
     gathered.Post
@@ -366,7 +463,7 @@ pub +again+children+each+expand+fallback+gathered+inner+inter+retry+rule+visit-s
     (λ c. search needs)
     (λ c. search needs)
     (λ c. search needs)
-    (λ c. search needs))
+    (gathered-returns t))
     (λ t. inner-lts.spec (inner-calls t)
     (inner-at t)
     inner.Post
@@ -376,24 +473,24 @@ pub +again+children+each+expand+fallback+gathered+inner+inter+retry+rule+visit-s
     (λ c. search needs)
     (λ c. search needs)
     (λ c. search needs)
-    (λ c. search needs)
-    (λ c. search needs)
-    (λ c _. search needs)
-    (λ c _. search needs)
-    (λ c. search needs)
-    (λ c _. search needs)
+    (inner-returns t)
     (λ c. search needs)
     (λ c _. search needs)
     (λ c _. search needs)
+    (λ c. search needs)
+    (λ c _. search needs)
+    (λ c. search needs)
+    (λ c _. search needs)
+    (λ c _. search needs)
     (λ c _. search needs)
     (λ c. search needs)
     (λ c. search needs)
     (λ c. search needs)
-    (λ c. search needs)
+    (inner-returns-2 t)
     (λ c. search needs)
     (λ c. search needs)
     (inner-same-length-9 t)
-    (λ c. search needs))
+    (inner-returns-3 t))
     (λ t. inter-lts.spec (inter-calls t)
     (inter-at t)
     inter.Post
@@ -404,7 +501,7 @@ pub +again+children+each+expand+fallback+gathered+inner+inter+retry+rule+visit-s
     (λ c. search needs)
     (λ c. search needs)
     (inter-same-length-3 t)
-    (λ c. search needs))
+    (inter-returns t))
     (λ t. retry-lts.spec (retry-calls t)
     (retry-at t)
     retry.Post
@@ -417,7 +514,7 @@ pub +again+children+each+expand+fallback+gathered+inner+inter+retry+rule+visit-s
     (λ c. search needs)
     (λ c. search needs)
     (retry-same-length-3 t)
-    (λ c. search needs))
+    (retry-returns t))
     (λ t. rule-lts.spec (rule-calls t)
     (rule-at t)
     rule.Post
@@ -431,43 +528,41 @@ pub +again+children+each+expand+fallback+gathered+inner+inter+retry+rule+visit-s
     (λ c. search needs)
     (λ c. search needs)
     (λ c. search needs)
+    (rule-returns t)
     (λ c. search needs)
     (λ c. search needs)
     (λ c. search needs)
+    (rule-returns-2 t)
     (λ c. search needs)
     (λ c. search needs)
     (λ c. search needs)
-    (λ c. search needs)
-    (λ c. search needs)
-    (λ c. search needs))
+    (rule-returns-3 t))
     λ t. visit-lts.spec (visit-calls t)
     (visit-at t)
     visit.Post
     (λ c _. search needs)
     (λ c. search needs)
     (λ c. search needs)
-    (λ c. search needs)
+    (visit-returns t)
     (λ c _. search needs)
     (λ c _. search needs)
     (λ c _. search needs)
     (λ c _. search needs)
     (λ c. search needs)
     (λ c. search needs)
-    (λ c. search needs)
+    (visit-returns-2 t)
     (λ c _. search needs)
     (λ c _. search needs)
     (λ c _. search needs)
     (λ c. search needs)
     (λ c. search needs)
     (λ c. search needs)
+    (visit-returns-3 t)
     (λ c. search needs)
     (λ c. search needs)
+    (visit-returns-4 t)
     (λ c. search needs)
-    (λ c. search needs)
-    (λ c. search needs)
-    (λ c. search needs)
-    (λ c _. search needs)
-    (λ c. search needs)
+    (visit-returns-5 t)
     (λ c _. search needs)
     (λ c. search needs)
     (λ c _. search needs)
@@ -475,9 +570,4 @@ pub +again+children+each+expand+fallback+gathered+inner+inter+retry+rule+visit-s
     (λ c. search needs)
     (λ c. search needs)
     (λ c. search needs)
-    (λ c. search needs)
-    (λ c. search needs)
-    (λ c. search needs)
-    (λ c. search needs)
-    (λ c. search needs)
-    (λ c. search needs)
+    (visit-returns-6 t)

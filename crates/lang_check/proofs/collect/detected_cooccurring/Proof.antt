@@ -1,15 +1,23 @@
+use Rattle.lang_check.proofs.Passing.{Detecting, detecting-start, detecting-more, detecting-done}
+use Prim.Native.Nat.{_-_}
 use borrow.Author.Needs.{needs}
-use Prim.Native.Nat.{_-_, _≤_}
-use mathlib.Core.Path.{_≡_}
-use lib.ListN.{length}
 use Rattle.lang_check.proofs.collect.detected_cooccurring.Statement.{statement}
 use Rattle.lang_check.proofs.collect.detected_cooccurring.Tie as tie
 
 abbrev Inv-loop : tie.InvT-loop
-Inv-loop facts₀ work count any₀ i₀ facts any i = (i ≤ count) × (length facts ≡ length facts₀)
+Inv-loop facts₀ work count any₀ i₀ facts any i = Detecting facts₀ work count facts any i
 
 abbrev μ-loop : tie.MeasureT-loop
 μ-loop facts₀ work count any₀ i₀ facts any i = count - i
+
+loop-holds : tie.Need-loop-holds Inv-loop μ-loop
+loop-holds c = detecting-start
+
+loop-again : tie.Need-loop-again Inv-loop μ-loop
+loop-again c = detecting-more (c .before .before .before .before .before .before .loop .inv) (c .before .before .before .before .before .loop-test .taken) (c .before .before .before .preserve-if-both .ensures) (c .or .ensures) (c .before .before .before .preserve-if-both .kept .0)
+
+returns : tie.Need-returns Inv-loop μ-loop
+returns c = search detecting-done
 
 pub detected-cooccurring-spec : {M : Type 1} → statement M
 detected-cooccurring-spec =
@@ -17,10 +25,11 @@ detected-cooccurring-spec =
     (tie.spec
     Inv-loop
     μ-loop
-    (λ c. search needs)
+    loop-holds
+    (λ c _. search needs)
     (λ c _. search needs)
     (λ c. search needs)
     (λ c. search needs)
+    loop-again
     (λ c. search needs)
-    (λ c. search needs)
-    (λ c. search needs))
+    returns)

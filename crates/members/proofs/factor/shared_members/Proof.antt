@@ -1,15 +1,26 @@
+use Rattle.members.specs.Factors.{inAllOthers}
+use Rattle.members.proofs.Factoring.{Picking, picking-start, picking-more, picking-done, tried-others}
 use borrow.Author.Needs.{needs}
-use Prim.Native.Nat.{_-_, _≤_}
+use Prim.Native.Nat.{_-_}
 use mathlib.Core.Path.{_≡_}
 use lib.ListN.{length}
 use Rattle.members.proofs.factor.shared_members.Statement.{statement}
 use Rattle.members.proofs.factor.shared_members.Tie as tie
 
 abbrev Inv-loop : tie.InvT-loop
-Inv-loop starts words unions s u n out₀ k₀ i₀ out k i = (i ≤ n) × (length out ≡ length out₀)
+Inv-loop starts words unions s u n out₀ k₀ i₀ out k i = Picking inAllOthers starts words s (unions .count) u n out k i × (length out ≡ length out₀)
 
 abbrev μ-loop : tie.MeasureT-loop
 μ-loop starts words unions s u n out₀ k₀ i₀ out k i = n - i
+
+loop-holds : tie.Need-loop-holds Inv-loop μ-loop
+loop-holds c = (picking-start, search needs)
+
+loop-again : tie.Need-loop-again Inv-loop μ-loop
+loop-again c = (search (picking-more, tried-others), search needs)
+
+returns : tie.Need-returns Inv-loop μ-loop
+returns c = search picking-done
 
 pub shared-members-spec : {M : Type 1} → statement M
 shared-members-spec =
@@ -19,7 +30,7 @@ shared-members-spec =
     μ-loop
     (λ c. search needs)
     (λ c _. search needs)
-    (λ c. search needs)
+    loop-holds
     (λ c _. search needs)
     (λ c. search needs)
     (λ c. search needs)
@@ -27,5 +38,5 @@ shared-members-spec =
     (λ c _. search needs)
     (λ c. search needs)
     (λ c. search needs)
-    (λ c. search needs)
-    (λ c. search needs))
+    loop-again
+    returns)

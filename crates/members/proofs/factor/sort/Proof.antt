@@ -1,15 +1,25 @@
+use Rattle.members.proofs.Factoring.{Inserting, inserting-start, inserting-more, inserting-done}
 use borrow.Author.Needs.{needs}
-use Prim.Native.Nat.{_-_, _≤_}
+use Prim.Native.Nat.{_-_}
 use mathlib.Core.Path.{_≡_}
 use lib.ListN.{length}
 use Rattle.members.proofs.factor.sort.Statement.{statement}
 use Rattle.members.proofs.factor.sort.Tie as tie
 
 abbrev Inv-loop : tie.InvT-loop
-Inv-loop starts words ms n out₀ i₀ out i = (i ≤ n) × (length out ≡ length out₀)
+Inv-loop starts words ms n out₀ i₀ out i = Inserting starts words ms n out i × (length out ≡ length out₀)
 
 abbrev μ-loop : tie.MeasureT-loop
 μ-loop starts words ms n out₀ i₀ out i = n - i
+
+loop-holds : tie.Need-loop-holds Inv-loop μ-loop
+loop-holds c = (inserting-start, search needs)
+
+loop-again : tie.Need-loop-again Inv-loop μ-loop
+loop-again c = (search inserting-more, search needs)
+
+returns : tie.Need-returns Inv-loop μ-loop
+returns c = inserting-done (c .before .loop .inv .0) (c .loop-test .left)
 
 pub sort-spec : {M : Type 1} → statement M
 sort-spec =
@@ -17,12 +27,12 @@ sort-spec =
     (tie.spec
     Inv-loop
     μ-loop
-    (λ c. search needs)
+    loop-holds
     (λ c. search needs)
     (λ c. search needs)
     (λ c _. search needs)
     (λ c _. search needs)
     (λ c. search needs)
     (λ c. search needs)
-    (λ c. search needs)
-    (λ c. search needs))
+    loop-again
+    returns)

@@ -1,15 +1,26 @@
+use Rattle.members.specs.Factors.{notAmong}
+use Rattle.members.proofs.Factoring.{Picking, picking-start, picking-more, picking-done, tried-among}
 use borrow.Author.Needs.{needs}
-use Prim.Native.Nat.{_-_, _≤_}
+use Prim.Native.Nat.{_-_}
 use mathlib.Core.Path.{_≡_}
 use lib.ListN.{length}
 use Rattle.members.proofs.factor.unshared.Statement.{statement}
 use Rattle.members.proofs.factor.unshared.Tie as tie
 
 abbrev Inv-loop : tie.InvT-loop
-Inv-loop starts words s n u c out₀ k₀ i₀ out k i = (i ≤ c) × (length out ≡ length out₀)
+Inv-loop starts words s n u c out₀ k₀ i₀ out k i = Picking notAmong starts words s n u c out k i × (length out ≡ length out₀)
 
 abbrev μ-loop : tie.MeasureT-loop
 μ-loop starts words s n u c out₀ k₀ i₀ out k i = c - i
+
+loop-holds : tie.Need-loop-holds Inv-loop μ-loop
+loop-holds c = (picking-start, search needs)
+
+loop-again : tie.Need-loop-again Inv-loop μ-loop
+loop-again c = (search (picking-more, tried-among), search needs)
+
+returns : tie.Need-returns Inv-loop μ-loop
+returns c = search picking-done
 
 pub unshared-spec : {M : Type 1} → statement M
 unshared-spec =
@@ -18,12 +29,12 @@ unshared-spec =
     Inv-loop
     μ-loop
     (λ c _. search needs)
-    (λ c. search needs)
+    loop-holds
     (λ c _. search needs)
     (λ c. search needs)
     (λ c _. search needs)
     (λ c _. search needs)
     (λ c. search needs)
     (λ c. search needs)
-    (λ c. search needs)
-    (λ c. search needs))
+    loop-again
+    returns)

@@ -1,13 +1,26 @@
+use Rattle.members.proofs.Contradicting.{Pairing, pairing-start, pairing-here, pairing-more, pairing-done}
 use borrow.Author.Needs.{needs}
-use Prim.Native.Nat.{_-_, _≤_}
+use Prim.Native.Nat.{_-_}
 use Rattle.members.proofs.intersections.any_disjoint_pair.Statement.{statement}
 use Rattle.members.proofs.intersections.any_disjoint_pair.Tie as tie
 
 abbrev Inv-loop : tie.InvT-loop
-Inv-loop starts words functor s n i₀ i = i ≤ n
+Inv-loop starts words functor s n i₀ i = Pairing functor starts words s n i
 
 abbrev μ-loop : tie.MeasureT-loop
 μ-loop starts words functor s n i₀ i = n - i
+
+loop-holds : tie.Need-loop-holds Inv-loop μ-loop
+loop-holds c = pairing-start
+
+returns : tie.Need-returns Inv-loop μ-loop
+returns c = search pairing-here
+
+loop-again : tie.Need-loop-again Inv-loop μ-loop
+loop-again c = search pairing-more
+
+returns-2 : tie.Need-returns-2 Inv-loop μ-loop
+returns-2 c = pairing-done (c .before .loop .inv) (c .loop-test .left)
 
 pub any-disjoint-pair-spec : {M : Type 1} → statement M
 any-disjoint-pair-spec =
@@ -15,12 +28,12 @@ any-disjoint-pair-spec =
     (tie.spec
     Inv-loop
     μ-loop
-    (λ c. search needs)
+    loop-holds
     (λ c. search needs)
     (λ c _. search needs)
     (λ c _. search needs)
+    returns
     (λ c. search needs)
     (λ c. search needs)
-    (λ c. search needs)
-    (λ c. search needs)
-    (λ c. search needs))
+    loop-again
+    returns-2)

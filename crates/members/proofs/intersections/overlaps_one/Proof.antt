@@ -6,7 +6,7 @@ use Rattle.members.proofs.intersections.overlaps_one.Statement.{stateme
 use Rattle.members.proofs.intersections.overlaps_one.Tie as tie
 
 abbrev Inv-loop : tie.InvT-loop
-Inv-loop starts words functor s n x i₀ i = Probing (overlap functor) starts words s n x i
+Inv-loop starts words functor s n x i₀ i = Probing (overlap functor) starts words s 0 n x i
 
 abbrev μ-loop : tie.MeasureT-loop
 μ-loop starts words functor s n x i₀ i = n - i

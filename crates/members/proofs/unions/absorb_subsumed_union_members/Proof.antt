@@ -1,15 +1,25 @@
-use borrow.Author.Needs.{needs}
-use Prim.Native.Nat.{_-_, _≤_}
+use Rattle.members.proofs.Marking.{Absorbing, absorbing-start, absorbing-more, absorbing-done}
 use mathlib.Core.Path.{_≡_}
 use lib.ListN.{length}
+use borrow.Author.Needs.{needs}
+use Prim.Native.Nat.{_-_}
 use Rattle.members.proofs.unions.absorb_subsumed_union_members.Statement.{statement}
 use Rattle.members.proofs.unions.absorb_subsumed_union_members.Tie as tie
 
 abbrev Inv-loop : tie.InvT-loop
-Inv-loop starts words m ms n gone₀ i₀ gone i = (i ≤ n) × (length gone ≡ length gone₀)
+Inv-loop starts words m ms n gone₀ i₀ gone i = Absorbing starts words ms n gone i × (length gone ≡ length gone₀)
 
 abbrev μ-loop : tie.MeasureT-loop
 μ-loop starts words m ms n gone₀ i₀ gone i = n - i
+
+loop-holds : tie.Need-loop-holds Inv-loop μ-loop
+loop-holds c = (absorbing-start, search needs)
+
+loop-again : tie.Need-loop-again Inv-loop μ-loop
+loop-again c = (search absorbing-more, search needs)
+
+returns : tie.Need-returns Inv-loop μ-loop
+returns c = absorbing-done (c .before .before .before .loop .inv .0) (c .before .before .loop-test .left) (c .left .ensures)
 
 pub absorb-subsumed-union-members-spec : {M : Type 1} → statement M
 absorb-subsumed-union-members-spec =
@@ -17,13 +27,13 @@ absorb-subsumed-union-members-spec =
     (tie.spec
     Inv-loop
     μ-loop
-    (λ c. search needs)
-    (λ c. search needs)
-    (λ c. search needs)
-    (λ c _. search needs)
-    (λ c. search needs)
-    (λ c. search needs)
+    loop-holds
     (λ c. search needs)
     (λ c. search needs)
     (λ c _. search needs)
-    (λ c. search needs))
+    (λ c. search needs)
+    (λ c. search needs)
+    loop-again
+    (λ c. search needs)
+    (λ c _. search needs)
+    returns)

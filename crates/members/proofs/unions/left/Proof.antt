@@ -1,15 +1,25 @@
-use borrow.Author.Needs.{needs}
-use Prim.Native.Nat.{_-_, _≤_}
+use Rattle.members.proofs.Marking.{Leaving, leaving-start, leaving-more, leaving-done}
 use mathlib.Core.Path.{_≡_}
 use lib.ListN.{length}
+use borrow.Author.Needs.{needs}
+use Prim.Native.Nat.{_-_}
 use Rattle.members.proofs.unions.left.Statement.{statement}
 use Rattle.members.proofs.unions.left.Tie as tie
 
 abbrev Inv-loop : tie.InvT-loop
-Inv-loop gone ms n out₀ k₀ i₀ out k i = (i ≤ n) × (length out ≡ length out₀)
+Inv-loop gone ms n out₀ k₀ i₀ out k i = Leaving gone ms n out k i × (length out ≡ length out₀)
 
 abbrev μ-loop : tie.MeasureT-loop
 μ-loop gone ms n out₀ k₀ i₀ out k i = n - i
+
+loop-holds : tie.Need-loop-holds Inv-loop μ-loop
+loop-holds c = (leaving-start, search needs)
+
+loop-again : tie.Need-loop-again Inv-loop μ-loop
+loop-again c = (search leaving-more, search needs)
+
+returns : tie.Need-returns Inv-loop μ-loop
+returns c = leaving-done (c .before .loop .inv .0) (c .loop-test .left)
 
 pub left-spec : {M : Type 1} → statement M
 left-spec =
@@ -17,7 +27,7 @@ left-spec =
     (tie.spec
     Inv-loop
     μ-loop
-    (λ c. search needs)
+    loop-holds
     (λ c. search needs)
     (λ c. search needs)
     (λ c _. search needs)
@@ -25,5 +35,5 @@ left-spec =
     (λ c _. search needs)
     (λ c. search needs)
     (λ c. search needs)
-    (λ c. search needs)
-    (λ c. search needs))
+    loop-again
+    returns)

@@ -1,0 +1,4 @@
+-- What an accepted table says.
+pub mod Admitting
+pub mod Joining
+pub mod Accepting

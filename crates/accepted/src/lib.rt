@@ -1,0 +1,1 @@
+// What a table that is accepted says of a pass: laws, no code.

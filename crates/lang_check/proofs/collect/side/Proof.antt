@@ -1,0 +1,13 @@
+use Rattle.lang_check.proofs.Stepping.{side-first, side-other}
+use borrow.Author.Needs.{needs}
+use Rattle.lang_check.proofs.collect.side.Statement.{statement}
+use Rattle.lang_check.proofs.collect.side.Tie as tie
+
+returns : tie.Need-returns
+returns c = search side-first
+
+returns-2 : tie.Need-returns-2
+returns-2 c = search side-other
+
+pub side-spec : {M : Type 1} → statement M
+side-spec = tie.close (tie.spec returns returns-2)

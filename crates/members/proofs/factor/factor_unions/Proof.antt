@@ -1,0 +1,25 @@
+use Rattle.members.proofs.Factoring.{unions-none, unions-some}
+use borrow.Author.Needs.{needs}
+use Rattle.members.proofs.factor.factor_unions.Statement.{statement}
+use Rattle.members.proofs.factor.factor_unions.Tie as tie
+
+returns : tie.Need-returns
+returns c = search unions-none
+
+returns-2 : tie.Need-returns-2
+returns-2 c = search unions-some
+
+pub factor-unions-spec : {M : Type 1} → statement M
+factor-unions-spec =
+    tie.close
+    (tie.spec
+    (λ c _. search needs)
+    (λ c _. search needs)
+    (λ c. search needs)
+    (λ c. search needs)
+    returns
+    (λ c _. search needs)
+    (λ c _. search needs)
+    (λ c. search needs)
+    (λ c. search needs)
+    returns-2)

@@ -1,0 +1,3 @@
+-- The rows of a table that was read.
+pub mod Shapes
+pub mod Preparing
