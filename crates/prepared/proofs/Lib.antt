@@ -1,3 +1,4 @@
--- The rows of a table that was read.
+-- The rows of a table that was read, and what its runs are given.
 pub mod Shapes
 pub mod Preparing
+pub mod Giving

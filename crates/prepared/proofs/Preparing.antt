@@ -4,7 +4,7 @@ use Prim.Native.Nat.{ℕ, zero, suc, _+_, _≤_, _<_}
 use native.Mathlib.Omega.{arith}
 use native.Mathlib.Nat.{not-suc-le-zero}
 use mathlib.Core.List.{List, [], _∷_, _++_}
-use lib.ListN.{length, getD, length-append}
+use lib.ListN.{length, drop, getD, length-append, length-drop}
 use lib.Dec.{eqb, ltb}
 use borrow.Author.Tests.{eqb-true}
 use Rattle.cells.specs.Part.{cell, part, run, Holds, Under}
@@ -26,39 +26,57 @@ use Rattle.table.specs.declared.Answer.the-variants.{Accepted}
 use Rattle.table.specs.Rows.{rowAt, tableFrom, Read}
 use Rattle.entries.specs.declared.given.Canon.{Canon}
 use Rattle.entries.specs.Passes.{RestAt, EntryAt, Reads}
-use Rattle.prepared.proofs.Shapes.{restWords, rowWords, Shaped, Gives, Entered, line-entered}
+use Rattle.prepared.proofs.Shapes.{restWords, rowWords, Shaped, Gives, Formal, Entered, line-entered}
 
--- each row is shaped
-abbrev pub AllShaped : List (List ℕ) → Type 0
-AllShaped [] = Unit {0}
-AllShaped (row ∷ rows) = Shaped row × AllShaped rows
+-- each row is so
+abbrev pub AllOf : (List ℕ → Type 0) → List (List ℕ) → Type 0
+AllOf P [] = Unit {0}
+AllOf P (row ∷ rows) = P row × AllOf P rows
 
-all-more : (rows : List (List ℕ)) (new : List ℕ) → AllShaped rows → Shaped new → AllShaped (rows ++ (new ∷ []))
-all-more [] new h s = (s, tt)
-all-more (row ∷ rows) new h s = (h .0, all-more rows new (h .1) s)
+module _ (P : List ℕ → Type 0) where
+  all-more : (rows : List (List ℕ)) (new : List ℕ) → AllOf P rows → P new → AllOf P (rows ++ (new ∷ []))
+  all-more [] new h s = (s, tt)
+  all-more (row ∷ rows) new h s = (h .0, all-more rows new (h .1) s)
 
-all-at : (rows : List (List ℕ)) (i : ℕ) → AllShaped rows → i < length rows → Shaped (getD rows i [])
-all-at [] i h lt = absurd (not-suc-le-zero lt)
-all-at (row ∷ rows) zero h lt = h .0
-all-at (row ∷ rows) (suc i) h lt = all-at rows i (h .1) (omega arith)
+  all-at : (rows : List (List ℕ)) (i : ℕ) → AllOf P rows → i < length rows → P (getD rows i [])
+  all-at [] i h lt = absurd (not-suc-le-zero lt)
+  all-at (row ∷ rows) zero h lt = h .0
+  all-at (row ∷ rows) (suc i) h lt = all-at rows i (h .1) (omega arith)
 
--- the entries of a table are shaped
-abbrev pub Formed : rules.Table → Type 0
-Formed t = AllShaped (t .entries)
+-- of n words
+abbrev pub Long : ℕ → List ℕ → Type 0
+Long n row = length row ≡ n
 
-formed-added : (t : rules.Table) (s : ℕ) (row : List ℕ) → Formed t → (s ≡ 2 → Shaped row) → Formed (addRow t s row)
+-- the entries of a table are shaped, its pairs have two ids and its marks one
+pub record Formed (t : rules.Table) : Type 0 where
+  pub entries : AllOf Shaped (t .entries)
+  pub pairs : AllOf (Long 2) (t .pairs)
+  pub marks : AllOf (Long 1) (t .marks)
+
+bare-long : (n : ℕ) (row : List ℕ) → length row ≡ suc n → length (drop 1 row) ≡ n
+bare-long n row e = let d = length-drop 1 row in omega arith
+
+formed-added : (t : rules.Table) (s : ℕ) (row : List ℕ) → Formed t → Formal s row → Formed (addRow t s row)
 formed-added t s row h f =
-    by-branch Formed (eqb s 0) _ _ h
-    (by-branch Formed (eqb s 1) _ _ h
-    (by-test Formed (eqb s 2) _ _ (λ e. all-more (t .entries) row h (f (eqb-true s 2 e)))
-    (λ _. by-branch Formed (eqb s 3) _ _ h (by-branch Formed (eqb s 4) _ _ h h))))
+    by-branch Formed (eqb s 0) _ _ (record { entries = h .entries; pairs = h .pairs; marks = h .marks })
+    (by-branch Formed (eqb s 1) _ _ (record { entries = h .entries; pairs = h .pairs; marks = h .marks })
+    (by-test Formed (eqb s 2) _ _
+    (λ e. let l = f .entry (eqb-true s 2 e) in
+    record { entries = all-more Shaped (t .entries) row (h .entries) l; pairs = h .pairs; marks = h .marks })
+    (λ _. by-test Formed (eqb s 3) _ _
+    (λ e. let l = bare-long 2 row (f .pair (eqb-true s 3 e)) in
+    record { entries = h .entries; pairs = all-more (Long 2) (t .pairs) (drop 1 row) (h .pairs) l; marks = h .marks })
+    (λ _. by-test Formed (eqb s 4) _ _
+    (λ e. let l = bare-long 1 row (f .mark (eqb-true s 4 e)) in
+    record { entries = h .entries; pairs = h .pairs; marks = all-more (Long 1) (t .marks) (drop 1 row) (h .marks) l })
+    (λ _. record { entries = h .entries; pairs = h .pairs; marks = h .marks })))))
 
--- what is taken has such entries
+-- what is taken has such rows
 abbrev Took : Taken → Type 0
 Took (taken r) = Formed (r .table)
 Took (fault k) = Unit {0}
 
-admit-formed : (r : Reading) (s : ℕ) (row : List ℕ) → Formed (r .table) → (s ≡ 2 → Shaped row) → Took (admit r s row)
+admit-formed : (r : Reading) (s : ℕ) (row : List ℕ) → Formed (r .table) → Formal s row → Took (admit r s row)
 admit-formed r s row h f =
     by-branch Took (inOrder (r .stage) s) _ _
     (by-branch Took (over (add r s row) s row) _ _ tt
@@ -101,12 +119,13 @@ table-formed (accepted t) h =
     then-formed (known _ (entryLine t) (t .entries)) _ (λ _. then-formed (known _ (rootLine t) (t .roots)) _ (λ _. h))
 table-formed (refused k l) h = tt
 
--- the entries of a table that is accepted are shaped
+-- the rows of a table that is accepted are such
 pub formed : (text : List ℕ) → Accepts Formed (tableOf text)
 unfolding tableOf
 formed text =
     by-branch (Accepts Formed) (ltb mostText (length text)) _ _ tt
-    (table-formed (lines 1 nothing (pieces lineFeed text)) (lines-formed 1 nothing (pieces lineFeed text) tt))
+    (table-formed (lines 1 nothing (pieces lineFeed text))
+    (lines-formed 1 nothing (pieces lineFeed text) (record { entries = tt; pairs = tt; marks = tt })))
 
 -- a span of words stands where it begins
 holds-span : {w xs : List ℕ} (a b : ℕ) → span w a b ≡ xs → Holds w a xs
@@ -150,14 +169,17 @@ entry-at w row a b e low high s =
 
 module _ (text s w : List ℕ) (t : Table) (T : rules.Table) (c : Canon) (r : Read text s w (Accepted t))
     (e : tableOf text ≡ accepted T) (count : c .count ≡ t .entries) (base : c .base ≡ 1 + t .names) where
-  same-table : T ≡ tableFrom t s w
+  pub same-table : T ≡ tableFrom t s w
   same-table = let z : accepted (tableFrom t s w) ≡ accepted T = r .is ∙ e in cc
+
+  pub rows-formed : Formed T
+  rows-formed = subst (Accepts Formed) e (formed text)
 
   entries-run : T .entries ≡ run (rowAt s w) (1 + t .names) (t .entries)
   unfolding tableFrom
   entries-run = ap (λ (u : rules.Table). u .entries) same-table
 
-  many : length (T .entries) ≡ c .count
+  pub many : length (T .entries) ≡ c .count
   many = ap length entries-run ∙ run-length (rowAt s w) (1 + t .names) (t .entries) ∙ sym count
 
   row-at : (id : ℕ) → id < c .count → getD (T .entries) id [] ≡ rowAt s w (c .base + id)
@@ -172,7 +194,7 @@ module _ (text s w : List ℕ) (t : Table) (T : rules.Table) (c : Canon) (r : Re
       let low = r .laid .within (c .base + id) (omega arith) in
       let high = r .laid .within (c .base + id + 1) (omega arith) in
       entry-at w (getD (T .entries) id []) (cell s (c .base + id)) (cell s (c .base + id + 1)) (row-at id lt) low high
-      (all-at (T .entries) id (subst (Accepts Formed) e (formed text)) (omega arith))
+      (all-at Shaped (T .entries) id (rows-formed .entries) (omega arith))
 
   ids-known : (id : ℕ) → id < length (T .entries) → Under (length (T .entries)) (kids (readerOf T id))
   unfolding firstPass

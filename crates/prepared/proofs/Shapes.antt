@@ -1,7 +1,7 @@
 -- A row that the rules' reader takes is as long as its kind and its counts say: it is that of the entry it says. Assumes nothing.
 use mathlib.Core.Path.{_≡_, refl, sym, ap, ap₂, _∙_, subst}
 use mathlib.Core.Bool.{Bool, true, false}
-use Prim.Native.Nat.{ℕ, suc, _+_, _/_}
+use Prim.Native.Nat.{ℕ, suc, _+_, _/_, _≤_, _<_}
 use native.Mathlib.Omega.{arith}
 use mathlib.Core.List.{List, [], _∷_, _++_, append-nil, append-assoc}
 use lib.ListN.{length}
@@ -268,27 +268,63 @@ set-words =
           (sym (append-assoc (fieldWords (a .fields)) (dynWords (b .dyn)) (b .isOpen ∷ length (b .optional) ∷ b .optional)));
     })
 
--- the row, where it is of the entries, is shaped
+-- what a row of section s is: that of the entry it says, a pair's with its two ids, a mark's with its one
+pub record Formal (s : ℕ) (row : List ℕ) : Type 0 where
+  pub entry : s ≡ 2 → Shaped row
+  pub pair : s ≡ 3 → length row ≡ 3
+  pub mark : s ≡ 4 → length row ≡ 2
+
+-- the row is as its section asks
 abbrev pub Entered : List ℕ → Type 0
-Entered row = sectionOf (cell row 0) ≡ 2 → Shaped row
+Entered row = Formal (sectionOf (cell row 0)) row
 
-entered : (Q : List ℕ → Type 0) (n : ℕ) (m : Maybe (List ℕ)) → Gives Q m → ((xs : List ℕ) → Q xs → Shaped (n ∷ xs))
-    → Gives Entered (tagged n m)
-entered Q n m h f = gives-then Q Entered m _ h (λ xs q _. f xs q)
+entered : (Q : List ℕ → Type 0) (n : ℕ) (m : Maybe (List ℕ)) → sectionOf n ≡ 2 → Gives Q m
+    → ((xs : List ℕ) → Q xs → Shaped (n ∷ xs)) → Gives Entered (tagged n m)
+entered Q n m s h f =
+    gives-then Q Entered m _ h
+    (λ xs q. record {
+      entry = λ _. f xs q;
+      pair = λ (e : sectionOf n ≡ 3). absurd (omega arith);
+      mark = λ (e : sectionOf n ≡ 4). absurd (omega arith);
+    })
 
-outside : (n : ℕ) (m : Maybe (List ℕ)) → (sectionOf n ≡ 2 → ⊥) → Gives Entered (tagged n m)
-outside n m f = gives-each Entered m _ (λ xs e. absurd (f e))
+outside : (n : ℕ) (m : Maybe (List ℕ)) → (2 ≤ sectionOf n → 4 < sectionOf n) → Gives Entered (tagged n m)
+outside n m f =
+    gives-each Entered m _
+    (λ xs. record {
+      entry = λ (e : sectionOf n ≡ 2). let z = f (omega arith) in absurd (omega arith);
+      pair = λ (e : sectionOf n ≡ 3). let z = f (omega arith) in absurd (omega arith);
+      mark = λ (e : sectionOf n ≡ 4). let z = f (omega arith) in absurd (omega arith);
+    })
 
-one-entered : (n : ℕ) (make : ℕ → Entry) → ((x : ℕ) → rowWords (make x) ≡ n ∷ x ∷ []) → (k : ℕ)
+pair-entered : (n : ℕ) → sectionOf n ≡ 3 → (fs : List (List ℕ)) → Gives Entered (tagged n (byShape (aNumber ∷ aNumber ∷ []) fs))
+pair-entered n s fs =
+    gives-then Two Entered (byShape (aNumber ∷ aNumber ∷ []) fs) _ (two-numbers fs)
+    (λ xs o. record {
+      entry = λ (e : sectionOf n ≡ 2). absurd (omega arith);
+      pair = λ _. ap (λ (l : List ℕ). suc (length l)) (o .is);
+      mark = λ (e : sectionOf n ≡ 4). absurd (omega arith);
+    })
+
+mark-entered : (n : ℕ) → sectionOf n ≡ 4 → (fs : List (List ℕ)) → Gives Entered (tagged n (byShape (aNumber ∷ []) fs))
+mark-entered n s fs =
+    gives-then One Entered (byShape (aNumber ∷ []) fs) _ (shape-last One aNumber number-field fs)
+    (λ xs o. record {
+      entry = λ (e : sectionOf n ≡ 2). absurd (omega arith);
+      pair = λ (e : sectionOf n ≡ 3). absurd (omega arith);
+      mark = λ _. ap (λ (l : List ℕ). suc (length l)) (o .is);
+    })
+
+one-entered : (n : ℕ) (make : ℕ → Entry) → sectionOf n ≡ 2 → ((x : ℕ) → rowWords (make x) ≡ n ∷ x ∷ []) → (k : ℕ)
     → ((p : List ℕ) → Gives One (fieldOf k p)) → (fs : List (List ℕ)) → Gives Entered (tagged n (byShape (k ∷ []) fs))
-one-entered n make e k f fs =
-    entered One n (byShape (k ∷ []) fs) (shape-last One k f fs)
+one-entered n make s e k f fs =
+    entered One n (byShape (k ∷ []) fs) s (shape-last One k f fs)
     (λ xs o. shaped (make (o .it)) (ap (λ (l : List ℕ). n ∷ l) (o .is) ∙ sym (e (o .it))))
 
-two-entered : (n : ℕ) (make : ℕ → ℕ → Entry) → ((x y : ℕ) → rowWords (make x y) ≡ n ∷ x ∷ y ∷ [])
+two-entered : (n : ℕ) (make : ℕ → ℕ → Entry) → sectionOf n ≡ 2 → ((x y : ℕ) → rowWords (make x y) ≡ n ∷ x ∷ y ∷ [])
     → (fs : List (List ℕ)) → Gives Entered (tagged n (byShape (aNumber ∷ aNumber ∷ []) fs))
-two-entered n make e fs =
-    entered Two n (byShape (aNumber ∷ aNumber ∷ []) fs) (two-numbers fs)
+two-entered n make s e fs =
+    entered Two n (byShape (aNumber ∷ aNumber ∷ []) fs) s (two-numbers fs)
     (λ xs o. shaped (make (o .first) (o .second)) (ap (λ (l : List ℕ). n ∷ l) (o .is) ∙ sym (e (o .first) (o .second))))
 
 -- each of the kinds, numbered from n on, gives such rows
@@ -310,25 +346,25 @@ unfolding sectionOf
 kinds-form =
     ((λ fs. outside 0 (byShape (aNumber ∷ []) fs) (λ e. omega arith)),
     ((λ fs. outside 1 (byShape (aName ∷ []) fs) (λ e. omega arith)),
-    ((λ fs. entered Bounds 2 (byShape (aList ∷ aList ∷ []) fs) (two-lists fs)
+    ((λ fs. entered Bounds 2 (byShape (aList ∷ aList ∷ []) fs) refl (two-lists fs)
     (λ xs o. shaped (var (o .lower) (o .upper)) (ap (λ (l : List ℕ). 2 ∷ l) (o .is)))),
-    (one-entered 3 prim (λ x. refl) aCode code-field,
-    (one-entered 4 tyvar (λ x. refl) aNumber number-field,
-    (one-entered 5 list (λ x. refl) aNumber number-field,
-    (two-entered 6 fn (λ x y. refl),
-    ((λ fs. entered Attrs 7 (byShape (someFields ∷ aDyn ∷ aFlag ∷ aList ∷ []) fs) (set-words fs)
+    (one-entered 3 prim refl (λ x. refl) aCode code-field,
+    (one-entered 4 tyvar refl (λ x. refl) aNumber number-field,
+    (one-entered 5 list refl (λ x. refl) aNumber number-field,
+    (two-entered 6 fn refl (λ x y. refl),
+    ((λ fs. entered Attrs 7 (byShape (someFields ∷ aDyn ∷ aFlag ∷ aList ∷ []) fs) refl (set-words fs)
     (λ xs o. shaped (set (o .attr)) (ap (λ (l : List ℕ). 7 ∷ l) (o .is)))),
-    (one-entered 8 neg (λ x. refl) aNumber number-field,
-    (two-entered 9 named (λ x y. refl),
-    (two-entered 10 inter (λ x y. refl),
-    (two-entered 11 union (λ x y. refl),
-    ((λ fs. entered (λ (xs : List ℕ). xs ≡ []) 12 (byShape [] fs) (shape-none fs)
+    (one-entered 8 neg refl (λ x. refl) aNumber number-field,
+    (two-entered 9 named refl (λ x y. refl),
+    (two-entered 10 inter refl (λ x y. refl),
+    (two-entered 11 union refl (λ x y. refl),
+    ((λ fs. entered (λ (xs : List ℕ). xs ≡ []) 12 (byShape [] fs) refl (shape-none fs)
     (λ xs e. shaped frozen (ap (λ (l : List ℕ). 12 ∷ l) e))),
-    ((λ fs. outside 13 (byShape (aNumber ∷ aNumber ∷ []) fs) (λ e. omega arith)),
-    ((λ fs. outside 14 (byShape (aNumber ∷ []) fs) (λ e. omega arith)),
+    (pair-entered 13 refl,
+    (mark-entered 14 refl,
     ((λ fs. outside 15 (byShape (aNumber ∷ aSign ∷ []) fs) (λ e. omega arith)), tt))))))))))))))))
 
--- the row of an entry's line that the rules' reader takes is shaped
+-- the row of a line that the rules' reader takes is as its section asks
 pub line-entered : (l : List ℕ) → Gives Entered (rowOf kinds l)
 unfolding rowOf
 line-entered l = word-entered kinds (pieces tab l) kinds-form

@@ -3,11 +3,12 @@ ghost use mathlib.Core.Bool.{false};
 ghost use lib.ListN.{length};
 ghost use Rattle.signatures.specs.Calls.{isShort, Short, canonNumbers, Answered, Called, Fits};
 use crate::roots;
-use crate::roots::Given;
 use cells::small;
 use cells::wipe;
 use cells::wipe_bytes;
 use entries::given::Work;
+use prepared::Given;
+use prepared::prepare;
 use table::Answer;
 use table::Table;
 
@@ -139,7 +140,7 @@ fn list(
 ) -> Outcome
     ensures { λ r. ⌜ Answered canonNumbers false (now (out .entry)) (now (out .exit)) r ⌝ }
 {
-    let c = roots::prepare(rows, table, facts, t);
+    let c = prepare(rows, table, facts, t);
     let size = write_asked(rows, table, facts, c, starts, words, work, draft, asked);
     deliver(rows, table, facts, c, starts, words, work, draft, out, size, asked)
 }

@@ -8,7 +8,6 @@ use crate::calls;
 use crate::calls::Lent;
 use crate::calls::Outcome;
 use crate::roots;
-use crate::roots::Given;
 use cells::at;
 use cells::get;
 use cells::place;
@@ -23,6 +22,9 @@ use listing::lines;
 use listing::old;
 use listing::old::Old;
 use listing::write;
+use prepared::Given;
+use prepared::first_root;
+use prepared::prepare;
 use table::Answer;
 use table::Table;
 
@@ -217,7 +219,7 @@ fn flag_and_list(
     ensures { λ r. ⌜ Answered recheckNumbers false (now (out .entry)) (now (out .exit)) r ⌝ }
 {
     wipe(facts);
-    let g = roots::prepare(rows, table, facts, t);
+    let g = prepare(rows, table, facts, t);
     let c = g.canon;
     reach::flag_redone(old_rows, old_table, rows, table, work, spans, c, g.first, g.roots);
     list(listing, rows, table, facts, g, starts, words, work, spans, draft, out)
@@ -246,7 +248,7 @@ fn compare_both(
         return Outcome::Refused(10, 0);
     }
     let names = small(t.names);
-    match old::read_old(listing, names, rows, table, roots::first_root(t), small(t.roots), spans, words) {
+    match old::read_old(listing, names, rows, table, first_root(t), small(t.roots), spans, words) {
         Old::Refused(l) => Outcome::Refused(11, l),
         Old::InForm => {
             flag_and_list(listing, old_rows, old_table, rows, table, facts, starts, words, work, spans, draft, out, t)
