@@ -5,7 +5,6 @@ use native.Mathlib.Omega.{arith}
 use mathlib.Core.List.{List}
 use lib.ListN.{length}
 use Rattle.cells.specs.Part.{cell, Under}
-use Rattle.cells.proofs.Holding.{holds-from, holds-at}
 use Rattle.rules.specs.Types.{State, Out, ok}
 use Rattle.rules.specs.Run.{Reader, visit}
 use Rattle.rules.specs.Run as runs
@@ -18,7 +17,6 @@ use Rattle.lang_ty.specs.declared.arena.Given.the-variants.{Node as NodeG, Refu
 use Rattle.lang_ty.specs.declared.arena.Given.{Given}
 use Rattle.lang_ty.specs.Nodes.{Stands, Answers as Stores}
 use Rattle.entries.specs.declared.given.Canon.{Canon}
-use Rattle.entries.specs.Helds.{HeldList}
 use Rattle.lang_check.specs.Cycle.{Keyed, Poised, KeptBelow, Answers}
 
 -- the nodes of a state that the slices stand for have their children below them
@@ -127,17 +125,6 @@ kept-both f g = record { is = λ k lo hi. g .is k lo hi ∙ f .is k lo hi }
 
 pub kept-none : (h : ℕ) (a : List ℕ) → KeptBelow h a a
 kept-none h a = record { is = λ k lo hi. refl }
-
-pub kept-lower : {h h′ : ℕ} {a b : List ℕ} → h ≤ h′ → KeptBelow h′ a b → KeptBelow h a b
-kept-lower le f = record { is = λ k lo hi. f .is k lo (omega arith) }
-
--- a list held from h on, below h′, stays
-pub held-kept : {h h′ n : ℕ} {work work′ xs : List ℕ} → 8194 ≤ h → h + length xs ≤ h′ → KeptBelow h′ work work′ → HeldList work h n xs → HeldList work′ h n xs
-held-kept {h} {work = work} {work′ = work′} {xs = xs} b le kept l =
-    record {
-      count = l .count;
-      holds = holds-from work′ h xs (λ i lt. kept .is (h + i) (omega arith) (omega arith) ∙ holds-at (l .holds) i lt);
-    }
 
 -- an outcome with another name
 pub answers-out : {o o′ : Out ℕ} {n : ℕ} {s w work work′ : List ℕ} {h : ℕ} {r : Given} → o ≡ o′ → Answers o n s w work work′ h r → Answers o′ n s w work work′ h r
