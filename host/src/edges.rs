@@ -7,7 +7,8 @@ use std::fmt::Write as _;
 use oracle::{reader, Answer, Measures, RootAnswer};
 
 use crate::draft::{tabs, Draft};
-use crate::ffi::{refused, Canon, Refused, CANON, OUTPUT};
+use crate::ffi::{refused, Canon, Refused, OUTPUT};
+use crate::layout;
 use crate::rng::Rng;
 use crate::scratch::Checked;
 use crate::{lines, recheck_edges, watch};
@@ -1078,7 +1079,7 @@ fn short_scratch(canon: &mut Canon, tally: &mut Tally) {
         ("frozen", tabs("budget>1\nfrozen\n")),
         ("too long", vec![b'x'; 65_537]),
     ];
-    for (i, (slice, stated)) in CANON.into_iter().enumerate() {
+    for (i, (slice, stated)) in layout::canon().into_iter().enumerate() {
         for length in [stated - 1, stated / 2, 0] {
             for (what, text) in &texts {
                 canon.scratch.lent[i] = length;

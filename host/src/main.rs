@@ -11,6 +11,7 @@ mod ffi;
 mod fuzz;
 mod join;
 mod kept;
+mod layout;
 mod lines;
 mod model;
 mod old;

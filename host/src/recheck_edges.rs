@@ -3,7 +3,8 @@
 
 use crate::draft::tabs;
 use crate::edges::{of_length, refused_with, told, writes, Tally};
-use crate::ffi::{refused, Input, Recheck, OUTPUT, RECHECK};
+use crate::ffi::{refused, Input, Recheck, OUTPUT};
+use crate::layout;
 use crate::{model, watch};
 
 const NAMES: &str = "budget>1\nname>a\nname>b\n";
@@ -336,7 +337,7 @@ fn lengths(edges: &mut Edges) {
 fn short_scratch(edges: &mut Edges) {
     let good = "budget>1\nprim>0\nroot>0>+\n";
     let whole = same(good, &format!("answers>1\n{ROOT}1\n0>prim>0\n"));
-    for (i, (slice, stated)) in RECHECK.into_iter().enumerate() {
+    for (i, (slice, stated)) in layout::recheck().into_iter().enumerate() {
         for length in [stated - 1, stated / 2, 0] {
             for (what, input) in [("in form", &whole), ("no bytes", &Input::default())] {
                 edges.recheck.scratch.lent[i] = length;

@@ -14,6 +14,7 @@ pub mod listing;
 #[cfg(text_at_hand)]
 mod probe;
 pub mod reader;
+pub mod records;
 mod rng;
 #[cfg(text_at_hand)]
 mod run;

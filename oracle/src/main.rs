@@ -15,7 +15,8 @@ oracle damage SEED                a damaged table
 oracle damage SEED COUNT          COUNT of them, framed
 oracle profiles                   the profiles
 oracle cover COUNT                counts over COUNT random tables
-oracle vectors                    the text of crates/vectors/stdin
+oracle vectors < EXAMPLES         the records of crates/examples/stdin, the
+                                  Rust's answers among them made anew
 oracle text                       whether this was built with the Rust text
 
 A frame is a line `table`, name, byte length, parted by tabs, and then the
@@ -83,7 +84,11 @@ fn run(arguments: &[&str]) -> io::Result<bool> {
             false => writeln!(out, "not at hand")?,
         },
         ["help"] => out.write_all(HELP.as_bytes())?,
-        ["vectors"] => out.write_all(&vectors()?)?,
+        ["vectors"] => {
+            let mut examples = Vec::new();
+            io::stdin().read_to_end(&mut examples)?;
+            out.write_all(&vectors(&examples)?)?;
+        }
         _ => return Ok(false),
     }
     out.flush()?;
@@ -117,8 +122,9 @@ fn cover(count: u64) -> io::Result<String> {
 }
 
 #[cfg(text_at_hand)]
-fn vectors() -> io::Result<Vec<u8>> {
-    Ok(oracle::vectors::text())
+fn vectors(examples: &[u8]) -> io::Result<Vec<u8>> {
+    let renewed = oracle::vectors::renewed(examples);
+    renewed.ok_or_else(|| io::Error::other("the records are not in form"))
 }
 
 #[cfg(not(text_at_hand))]
@@ -127,7 +133,7 @@ fn cover(_count: u64) -> io::Result<String> {
 }
 
 #[cfg(not(text_at_hand))]
-fn vectors() -> io::Result<Vec<u8>> {
+fn vectors(_examples: &[u8]) -> io::Result<Vec<u8>> {
     Err(no_text())
 }
 

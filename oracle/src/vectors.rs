@@ -3,6 +3,7 @@
 
 use crate::examples;
 use crate::gen::{self, PROFILES};
+use crate::records::{self, Record, BY_RUST};
 use crate::table::Table;
 use crate::{listing, probe, reader, run, Answer, RootAnswer};
 
@@ -38,8 +39,20 @@ struct Candidate {
     bailed: bool,
 }
 
-/// The text of crates/vectors/stdin.
-pub fn text() -> Vec<u8> {
+/// The text of crates/examples/stdin with its vectors made anew, behind the
+/// other records; none where it is not in form.
+pub fn renewed(examples: &[u8]) -> Option<Vec<u8>> {
+    let mut text = Vec::new();
+    for record in records::read(examples)? {
+        if record.by != BY_RUST {
+            text.extend(record.to_text());
+        }
+    }
+    text.extend(vectors());
+    Some(text)
+}
+
+fn vectors() -> Vec<u8> {
     run::on_large_stack(|| {
         let mut text = Vec::new();
         for example in examples::all() {
@@ -148,10 +161,11 @@ fn bails(root: &RootAnswer) -> bool {
 }
 
 fn record(table: &Table, answers: &[RootAnswer]) -> Vec<u8> {
-    let (table, listing) = (table.to_text(), listing::write(answers));
-    let mut record = format!("table\t{:06}\n", table.len()).into_bytes();
-    record.extend(table);
-    record.extend(format!("listing\t{:06}\n", listing.len()).into_bytes());
-    record.extend(listing);
-    record
+    let record = Record {
+        call: "canon",
+        given: &table.to_text(),
+        by: BY_RUST,
+        answer: &listing::write(answers),
+    };
+    record.to_text()
 }

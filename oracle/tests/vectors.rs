@@ -1,38 +1,26 @@
-//! The vectors, crates/vectors/stdin, are what the program makes, and have what they should have.
+//! The vectors, the records of crates/examples/stdin that the text answers,
+//! are what the program makes, and have what they should have.
 
 use std::collections::BTreeSet;
 
-const FILE: &[u8] = include_bytes!("../../crates/vectors/stdin");
+use oracle::records::{self, BY_RUST};
+
+const FILE: &[u8] = include_bytes!("../../crates/examples/stdin");
 
 #[test]
 #[cfg(text_at_hand)]
 fn vectors_are_made_again() {
     assert!(
-        oracle::vectors::text() == FILE,
-        "crates/vectors/stdin differs from what `oracle vectors` prints"
+        oracle::vectors::renewed(FILE).expect("in form") == FILE,
+        "crates/examples/stdin differs from what `oracle vectors` makes of it"
     );
 }
 
-/// Takes `word`, a length and that many bytes off the front.
-fn part<'a>(rest: &mut &'a [u8], word: &str) -> &'a [u8] {
-    let end = rest.iter().position(|&b| b == b'\n').expect("a line");
-    let line = std::str::from_utf8(&rest[..end]).expect("text");
-    let (first, length) = line.split_once('\t').expect("two fields");
-    assert_eq!(first, word);
-    let length: usize = length.parse().expect("a length");
-    let (bytes, after) = rest[end + 1..].split_at(length);
-    *rest = after;
-    bytes
-}
-
-fn records() -> Vec<(&'static [u8], &'static [u8])> {
-    let mut rest = FILE;
-    let mut records = Vec::new();
-    while !rest.is_empty() {
-        let table = part(&mut rest, "table");
-        records.push((table, part(&mut rest, "listing")));
-    }
-    records
+/// Tables and listings.
+fn vectors() -> Vec<(&'static [u8], &'static [u8])> {
+    let records = records::read(FILE).expect("in form");
+    let vectors = records.iter().filter(|r| r.by == BY_RUST);
+    vectors.map(|r| (r.given, r.answer)).collect()
 }
 
 /// The branches that no accepted table reaches are left out, and one that
@@ -51,16 +39,16 @@ const NOT_TAKEN: [&str; 6] = [
 #[cfg(text_at_hand)]
 fn vectors_take_every_branch() {
     let read = |(table, _): &(&[u8], &[u8])| oracle::reader::read(table).expect("accepted");
-    let tables: Vec<_> = records().iter().map(read).collect();
+    let tables: Vec<_> = vectors().iter().map(read).collect();
     assert_eq!(oracle::cover::untaken(&tables), NOT_TAKEN);
 }
 
 #[test]
 fn vectors_are_of_the_domain() {
-    let records = records();
-    assert!(records.len() >= 300);
+    let vectors = vectors();
+    assert!(vectors.len() >= 300);
     let mut words = BTreeSet::new();
-    for (table, listing) in &records {
+    for (table, listing) in &vectors {
         assert!(oracle::reader::read(table).is_ok());
         let listing = std::str::from_utf8(listing).expect("text");
         for line in listing.lines() {

@@ -1,11 +1,11 @@
 -- Laws of the cycle and of the passes.
-pub mod Poising
-pub mod Answering
-pub mod Visiting
-pub mod Expanding
-pub mod Intering
-pub mod Eaching
-pub mod Ruling
-pub mod Making
-pub mod Passing
-pub mod Stepping
+pub mod Poised
+pub mod Answered
+pub mod Visit
+pub mod Expand
+pub mod Inter
+pub mod Each
+pub mod Rule
+pub mod MadeOf
+pub mod Passes
+pub mod Steps

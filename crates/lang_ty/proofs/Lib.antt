@@ -1,11 +1,11 @@
 -- Reading and storing nodes, sets in rows, disjointness, order: what the functions' proofs and callers cite.
-pub mod Reading
-pub mod Finding
-pub mod Keeping
-pub mod Writing
-pub mod Giving
-pub mod Setting
-pub mod Shaping
-pub mod Childing
-pub mod Itemizing
-pub mod Ordering
+pub mod Words
+pub mod Find
+pub mod Intern
+pub mod Rows
+pub mod Stores
+pub mod Attrsets
+pub mod Shapes
+pub mod Children
+pub mod Items
+pub mod Compare

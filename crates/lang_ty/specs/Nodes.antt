@@ -1,11 +1,13 @@
--- Nodes as rows in lent slices: node i's row is the words from starts[i] up to starts[i + 1]. How the code's slices stand for the rules'
--- state of a pass, and what the functions of arena.rt ensure. Each contract's premises are arguments of its fields.
+-- Nodes as rows in a lent slice: the row of node i is the cells from the place that cell i tells up to the place that cell i + 1 tells. How the
+-- slice stands for the rules' state of a pass, and what the functions of arena.rt ensure. Each contract's premises are arguments of its fields.
 use mathlib.Core.Path.{_≡_}
 use mathlib.Core.Bool.{Bool}
 use Prim.Native.Nat.{ℕ, suc, _+_, _*_, _≤_, _<_}
 use mathlib.Core.List.{List, _∷_, map}
 use lib.ListN.{length, getD, set}
 use Rattle.cells.specs.Part.{cell, part, eqList, Holds, Under}
+use Rattle.layout.specs.Layout.{arenaWords, arenaLength}
+use Rattle.rules.specs.Ceilings.{mostMembers, mostNodes, mostCells}
 use Rattle.rules.specs.Types.{State, Out, ok, no, encode, kindOf, members, children, cellsOf, nodeAt, store}
 use Rattle.rules.specs.Types as rules
 use Rattle.lang_ty.specs.declared.arena.Pass.{Pass}
@@ -14,101 +16,105 @@ use Rattle.lang_ty.specs.declared.arena.Given.the-variants.{Node, Refuse
 use Rattle.lang_ty.specs.declared.arena.Found.{Found}
 use Rattle.lang_ty.specs.declared.arena.Found.the-variants.{At, Nowhere}
 
--- the slices hold these nodes, "children first", none with more than 128 members. A row has at most 6 words besides its cells, so that a row of 8,192 words has room
--- behind the last
-pub record Arena (s w : List ℕ) (q : Pass) (ns : List rules.Node) : Type 0 where
-  pub count : length ns ≡ q .nodes
-  pub few : q .nodes ≤ 4096
-  pub cells : q .cells ≤ 16384
-  pub rows : (i : ℕ) → i < length ns → Holds w (cell s i) (encode (nodeAt ns i))
-  pub ends : (i : ℕ) → i < length ns → cell s (suc i) ≡ cell s i + length (encode (nodeAt ns i))
-  pub top : cell s (q .nodes) ≤ 6 * q .nodes + q .cells
-  pub below : (i : ℕ) → i < length ns → Under i (children (nodeAt ns i))
-  pub slim : (i : ℕ) → i < length ns → length (members (nodeAt ns i)) ≤ 128
-  pub places : 4097 ≤ length s
-  pub room : 49152 ≤ length w
+-- where the last row ends at most
+abbrev pub highest : ℕ
+highest = arenaWords + 6 * mostNodes + mostCells
 
--- the slices and counts are those of a state; its keys and bits lie elsewhere
-pub record Stands (st : State) (s w : List ℕ) (q : Pass) : Type 0 where
-  pub arena : Arena s w q (st .nodes)
+-- the slice holds these nodes, "children first", none with more members than may be. A row has at most 6 words besides its cells, so that
+-- there is room for one of 8,192 words behind the last
+pub record Arena (w : List ℕ) (q : Pass) (ns : List rules.Node) : Type 0 where
+  pub count : length ns ≡ q .nodes
+  pub few : q .nodes ≤ mostNodes
+  pub cells : q .cells ≤ mostCells
+  pub first : arenaWords ≤ cell w 0
+  pub rows : (i : ℕ) → i < length ns → Holds w (cell w i) (encode (nodeAt ns i))
+  pub ends : (i : ℕ) → i < length ns → cell w (suc i) ≡ cell w i + length (encode (nodeAt ns i))
+  pub top : cell w (q .nodes) ≤ arenaWords + 6 * q .nodes + q .cells
+  pub below : (i : ℕ) → i < length ns → Under i (children (nodeAt ns i))
+  pub slim : (i : ℕ) → i < length ns → length (members (nodeAt ns i)) ≤ mostMembers
+  pub room : arenaLength ≤ length w
+
+-- the slice and the counts are those of a state; its keys and bits lie elsewhere
+pub record Stands (st : State) (w : List ℕ) (q : Pass) : Type 0 where
+  pub arena : Arena w q (st .nodes)
   pub cells : st .cells ≡ q .cells
   pub ops : st .ops ≡ q .ops
   pub sorted : st .sorted ≡ q .sorted
   pub bailed : st .bailed ≡ q .bailed
 
--- the rules give node x too, and the slices are as after that
-pub record Gives (o : Out ℕ) (s w : List ℕ) (x : ℕ) (q : Pass) : Type 0 where
+-- the rules give node x too, and the slice is as after that
+pub record Gives (o : Out ℕ) (w : List ℕ) (x : ℕ) (q : Pass) : Type 0 where
   pub after : State
   pub is : o ≡ ok x after
-  pub stands : Stands after s w q
+  pub stands : Stands after w q
   pub below : x < length (after .nodes)
 
 -- the rules' outcome by the code's answer: a node, or the number of a refusal
-abbrev pub Answer : Out ℕ → List ℕ → List ℕ → Given → Type 0
-Answer o s w (Node x q) = Gives o s w x q
-Answer o s w (Refused k) = o ≡ no k
+abbrev pub Answer : Out ℕ → List ℕ → Given → Type 0
+Answer o w (Node x q) = Gives o w x q
+Answer o w (Refused k) = o ≡ no k
 
-pub record Answers (o : Out ℕ) (s w : List ℕ) (r : Given) : Type 0 where
-  pub is : Answer o s w r
+pub record Answers (o : Out ℕ) (w : List ℕ) (r : Given) : Type 0 where
+  pub is : Answer o w r
 
 -- word i of node x
-pub record Word (s w : List ℕ) (x i r : ℕ) : Type 0 where
-  pub is : r ≡ cell w (cell s x + i)
+pub record Word (w : List ℕ) (x i r : ℕ) : Type 0 where
+  pub is : r ≡ cell w (cell w x + i)
 
-pub record Kind (s w : List ℕ) (x r : ℕ) : Type 0 where
-  pub is : {q : Pass} {ns : List rules.Node} → Arena s w q ns → x < length ns → r ≡ kindOf (nodeAt ns x)
+pub record Kind (w : List ℕ) (x r : ℕ) : Type 0 where
+  pub is : {q : Pass} {ns : List rules.Node} → Arena w q ns → x < length ns → r ≡ kindOf (nodeAt ns x)
 
-pub record Is (s w : List ℕ) (k x : ℕ) (r : Bool) : Type 0 where
-  pub is : {q : Pass} {ns : List rules.Node} → Arena s w q ns → x < length ns → r ≡ rules.is ns k x
+pub record Is (w : List ℕ) (k x : ℕ) (r : Bool) : Type 0 where
+  pub is : {q : Pass} {ns : List rules.Node} → Arena w q ns → x < length ns → r ≡ rules.is ns k x
 
-pub record Count (s w : List ℕ) (x r : ℕ) : Type 0 where
-  pub is : {q : Pass} {ns : List rules.Node} → Arena s w q ns → x < length ns → r ≡ length (members (nodeAt ns x))
+pub record Count (w : List ℕ) (x r : ℕ) : Type 0 where
+  pub is : {q : Pass} {ns : List rules.Node} → Arena w q ns → x < length ns → r ≡ length (members (nodeAt ns x))
 
-pub record Member (s w : List ℕ) (x i r : ℕ) : Type 0 where
-  pub is : {q : Pass} {ns : List rules.Node} → Arena s w q ns → x < length ns → i < length (members (nodeAt ns x)) → r ≡ getD (members (nodeAt ns x)) i 0
+pub record Member (w : List ℕ) (x i r : ℕ) : Type 0 where
+  pub is : {q : Pass} {ns : List rules.Node} → Arena w q ns → x < length ns → i < length (members (nodeAt ns x)) → r ≡ getD (members (nodeAt ns x)) i 0
 
 -- whether the n words from a on are the n words from b on
 pub record Same (w : List ℕ) (a b n : ℕ) (r : Bool) : Type 0 where
   pub is : r ≡ eqList (part w a n) (part w b n)
 
 -- the row of n is the len words from top on, behind the rows of ns
-pub record Offered (s w : List ℕ) (q : Pass) (top len : ℕ) (ns : List rules.Node) (n : rules.Node) : Type 0 where
-  pub arena : Arena s w q ns
+pub record Offered (w : List ℕ) (q : Pass) (top len : ℕ) (ns : List rules.Node) (n : rules.Node) : Type 0 where
+  pub arena : Arena w q ns
   pub row : Holds w top (encode n)
   pub size : len ≡ length (encode n)
   pub short : len ≤ 8192
 
 -- whether node i's row is that of n
-pub record RowIs (s w : List ℕ) (i top len : ℕ) (r : Bool) : Type 0 where
-  pub is : {q : Pass} {ns : List rules.Node} {n : rules.Node} → Offered s w q top len ns n → i < length ns → r ≡ eqList (encode n) (encode (nodeAt ns i))
+pub record RowIs (w : List ℕ) (i top len : ℕ) (r : Bool) : Type 0 where
+  pub is : {q : Pass} {ns : List rules.Node} {n : rules.Node} → Offered w q top len ns n → i < length ns → r ≡ eqList (encode n) (encode (nodeAt ns i))
 
 abbrev pub foundOf : Found → rules.Found
 foundOf (At i) = rules.at i
 foundOf Nowhere = rules.nowhere
 
-pub record Sought (s w : List ℕ) (nodes top len : ℕ) (r : Found) : Type 0 where
-  pub is : {q : Pass} {ns : List rules.Node} {n : rules.Node} → Offered s w q top len ns n → nodes ≡ length ns → foundOf r ≡ rules.find (encode n) (map encode ns) 0
+pub record Sought (w : List ℕ) (nodes top len : ℕ) (r : Found) : Type 0 where
+  pub is : {q : Pass} {ns : List rules.Node} {n : rules.Node} → Offered w q top len ns n → nodes ≡ length ns → foundOf r ≡ rules.find (encode n) (map encode ns) 0
 
--- what is asked of a node that is to be stored behind k others: its cells, members no more than 128, its children among those, and a
+-- what is asked of a node that is to be stored behind k others: its cells, members no more than may be, its children among those, and a
 -- row that has room
 pub record Fits (n : rules.Node) (k count : ℕ) : Type 0 where
   pub cells : cellsOf n ≡ count
-  pub few : length (members n) ≤ 128
+  pub few : length (members n) ≤ mostMembers
   pub below : Under k (children n)
   pub short : length (encode n) ≤ 8192
 
 -- n as the next node; 8 where it would be a 4,097th, 9 where "node cells in a pass would pass 16,384"
-pub record Kept (s : List ℕ) (q : Pass) (end cells : ℕ) (s′ : List ℕ) (r : Given) : Type 0 where
-  pub is : {st : State} {w : List ℕ} {n : rules.Node} → Stands st s w q → Fits n (q .nodes) cells → Holds w (cell s (q .nodes)) (encode n)
-      → end ≡ cell s (q .nodes) + length (encode n) → Answers (rules.keep n st rules.nowhere) s′ w r
+pub record Kept (w : List ℕ) (q : Pass) (end cells : ℕ) (w′ : List ℕ) (r : Given) : Type 0 where
+  pub is : {st : State} {n : rules.Node} → Stands st w q → Fits n (q .nodes) cells → Holds w (cell w (q .nodes)) (encode n)
+      → end ≡ cell w (q .nodes) + length (encode n) → Answers (rules.keep n st rules.nowhere) w′ r
 
 -- the len words behind the last row, as a node: "Storing an equal node again takes nothing"
-pub record Interned (s w : List ℕ) (q : Pass) (len cells : ℕ) (s′ : List ℕ) (r : Given) : Type 0 where
-  pub is : {st : State} {n : rules.Node} → Stands st s w q → Fits n (q .nodes) cells → Holds w (cell s (q .nodes)) (encode n)
-      → len ≡ length (encode n) → Answers (store n st) s′ w r
+pub record Interned (w : List ℕ) (q : Pass) (len cells : ℕ) (w′ : List ℕ) (r : Given) : Type 0 where
+  pub is : {st : State} {n : rules.Node} → Stands st w q → Fits n (q .nodes) cells → Holds w (cell w (q .nodes)) (encode n)
+      → len ≡ length (encode n) → Answers (store n st) w′ r
 
-pub record Top (s : List ℕ) (q : Pass) (r : ℕ) : Type 0 where
-  pub is : r ≡ cell s (q .nodes)
+pub record Top (w : List ℕ) (q : Pass) (r : ℕ) : Type 0 where
+  pub is : r ≡ cell w (q .nodes)
 
 -- w′ is w but from t on, where the row was written as far as there is room
 pub record Written (t : ℕ) (w w′ xs : List ℕ) : Type 0 where
@@ -121,8 +127,8 @@ pub record Copied (t : ℕ) (w from : List ℕ) (a i : ℕ) (w′ : List ℕ) : 
   pub is : w′ ≡ set w (t + i) (cell from (a + i))
 
 -- a node whose row is these words
-pub record Stored (row : List ℕ) (cells : ℕ) (s w : List ℕ) (q : Pass) (s′ w′ : List ℕ) (r : Given) : Type 0 where
-  pub is : {st : State} {n : rules.Node} → Stands st s w q → Fits n (q .nodes) cells → encode n ≡ row → Answers (store n st) s′ w′ r
+pub record Stored (row : List ℕ) (cells : ℕ) (w : List ℕ) (q : Pass) (w′ : List ℕ) (r : Given) : Type 0 where
+  pub is : {st : State} {n : rules.Node} → Stands st w q → Fits n (q .nodes) cells → encode n ≡ row → Answers (store n st) w′ r
 
 -- m is a union or an intersection of xs, which are below k
 pub record Lists (m : rules.Node) (kind : ℕ) (xs : List ℕ) (k : ℕ) : Type 0 where
@@ -132,5 +138,5 @@ pub record Lists (m : rules.Node) (kind : ℕ) (xs : List ℕ) (k : ℕ) : Type 
   pub below : Under k (children m)
 
 -- a union or an intersection of the n numbers from a on; 7 where the member list "of a stored type, would pass 128"
-pub record Listed (kind : ℕ) (from : List ℕ) (a n : ℕ) (s w : List ℕ) (q : Pass) (s′ w′ : List ℕ) (r : Given) : Type 0 where
-  pub is : {st : State} {m : rules.Node} → Stands st s w q → Lists m kind (part from a n) (q .nodes) → Answers (store m st) s′ w′ r
+pub record Listed (kind : ℕ) (from : List ℕ) (a n : ℕ) (w : List ℕ) (q : Pass) (w′ : List ℕ) (r : Given) : Type 0 where
+  pub is : {st : State} {m : rules.Node} → Stands st w q → Lists m kind (part from a n) (q .nodes) → Answers (store m st) w′ r

@@ -23,11 +23,11 @@ pub record FirstChild (k r : ℕ) : Type 0 where
   pub small : r ≤ 2
 
 -- "Children go left to right, fields then dyn"
-pub record Children (s w : List ℕ) (x r : ℕ) : Type 0 where
-  pub is : {q : Pass} {ns : List Node} → Arena s w q ns → x < length ns → r ≡ length (rules.children (nodeAt ns x))
+pub record Children (w : List ℕ) (x r : ℕ) : Type 0 where
+  pub is : {q : Pass} {ns : List Node} → Arena w q ns → x < length ns → r ≡ length (rules.children (nodeAt ns x))
 
-pub record ChildAt (s w : List ℕ) (x i r : ℕ) : Type 0 where
-  pub is : {q : Pass} {ns : List Node} → Arena s w q ns → x < length ns → i < length (rules.children (nodeAt ns x)) → r ≡ getD (rules.children (nodeAt ns x)) i 0
+pub record ChildAt (w : List ℕ) (x i r : ℕ) : Type 0 where
+  pub is : {q : Pass} {ns : List Node} → Arena w q ns → x < length ns → i < length (rules.children (nodeAt ns x)) → r ≡ getD (rules.children (nodeAt ns x)) i 0
 
 abbrev pub itemOf : Item → rules-order.Item
 itemOf End = end
@@ -75,24 +75,24 @@ pub record Composite (n : Node) : Type 0 where
   pub row : encode n ≡ kindOf n ∷ length (members n) ∷ members n
   pub items : contents n ≡ listItems child (members n)
 
-pub record ListItem (s w : List ℕ) (x i : ℕ) (r : Item) : Type 0 where
-  pub is : {q : Pass} {ns : List Node} → Arena s w q ns → x < length ns → Composite (nodeAt ns x) → i < length (contents (nodeAt ns x))
+pub record ListItem (w : List ℕ) (x i : ℕ) (r : Item) : Type 0 where
+  pub is : {q : Pass} {ns : List Node} → Arena w q ns → x < length ns → Composite (nodeAt ns x) → i < length (contents (nodeAt ns x))
       → itemOf r ≡ getD (contents (nodeAt ns x)) i end
 
-pub record Items (s w : List ℕ) (x r : ℕ) : Type 0 where
-  pub is : {q : Pass} {ns : List Node} → Arena s w q ns → x < length ns → r ≡ length (contents (nodeAt ns x))
+pub record Items (w : List ℕ) (x r : ℕ) : Type 0 where
+  pub is : {q : Pass} {ns : List Node} → Arena w q ns → x < length ns → r ≡ length (contents (nodeAt ns x))
 
-pub record ItemAt (s w : List ℕ) (x i : ℕ) (r : Item) : Type 0 where
-  pub is : {q : Pass} {ns : List Node} → Arena s w q ns → x < length ns → i < length (contents (nodeAt ns x)) → itemOf r ≡ getD (contents (nodeAt ns x)) i end
+pub record ItemAt (w : List ℕ) (x i : ℕ) (r : Item) : Type 0 where
+  pub is : {q : Pass} {ns : List Node} → Arena w q ns → x < length ns → i < length (contents (nodeAt ns x)) → itemOf r ≡ getD (contents (nodeAt ns x)) i end
 
 -- two items, the first no child
 pub record Plainly (a b : Item) (r : Order) : Type 0 where
   pub is : (o : ℕ → ℕ → rules-order.Order) → ((x : ℕ) → a ≡ Child x → ⊥) → orderOf r ≡ compareItem o (itemOf a) (itemOf b)
 
-pub record ComparedAt (s w : List ℕ) (a b i : ℕ) (r : Order) : Type 0 where
-  pub is : {q : Pass} {ns : List Node} → Arena s w q ns → a < length ns → b < length ns → i < length (contents (nodeAt ns a)) → i < length (contents (nodeAt ns b))
+pub record ComparedAt (w : List ℕ) (a b i : ℕ) (r : Order) : Type 0 where
+  pub is : {q : Pass} {ns : List Node} → Arena w q ns → a < length ns → b < length ns → i < length (contents (nodeAt ns a)) → i < length (contents (nodeAt ns b))
       → orderOf r ≡ compareItem (order (length ns) ns) (getD (contents (nodeAt ns a)) i end) (getD (contents (nodeAt ns b)) i end)
 
 -- "by kind in OutputTy's order, then contents"
-pub record Compared (s w : List ℕ) (a b : ℕ) (r : Order) : Type 0 where
-  pub is : {q : Pass} {ns : List Node} → Arena s w q ns → a < length ns → b < length ns → orderOf r ≡ order (length ns) ns a b
+pub record Compared (w : List ℕ) (a b : ℕ) (r : Order) : Type 0 where
+  pub is : {q : Pass} {ns : List Node} → Arena w q ns → a < length ns → b < length ns → orderOf r ≡ order (length ns) ns a b

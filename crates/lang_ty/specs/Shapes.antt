@@ -18,8 +18,8 @@ pub record Subtype (a b : ℕ) (r : Bool) : Type 0 where
   pub is : r ≡ is-subtype-of a b
 
 -- where the set of node x stands
-pub record SetPlace (s : List ℕ) (x r : ℕ) : Type 0 where
-  pub is : {w : List ℕ} {q : Pass} {ns : List Node} {t : Attr} → Arena s w q ns → x < length ns → nodeAt ns x ≡ AttrSet t → SetAt w r t
+pub record SetPlace (w : List ℕ) (x r : ℕ) : Type 0 where
+  pub is : {q : Pass} {ns : List Node} {t : Attr} → Arena w q ns → x < length ns → nodeAt ns x ≡ AttrSet t → SetAt w r t
 
 -- the set at b requires the field k, and the one at a lacks it
 pub record Alone (w : List ℕ) (a b k : ℕ) (r : Bool) : Type 0 where
@@ -36,10 +36,10 @@ pub record Constructor (k : ℕ) (r : Bool) : Type 0 where
   pub is : r ≡ (eqb k 1 || eqb k 4 || eqb k 2 || eqb k 3)
 
 -- of two nodes of one constructor: "Two sets: one closed and the other requiring a field it lacks"
-pub record SameDisjoint (s w : List ℕ) (k a b : ℕ) (r : Bool) : Type 0 where
-  pub is : {q : Pass} {ns : List Node} → Arena s w q ns → a < length ns → b < length ns → kindOf (nodeAt ns a) ≡ k → kindOf (nodeAt ns b) ≡ k
+pub record SameDisjoint (w : List ℕ) (k a b : ℕ) (r : Bool) : Type 0 where
+  pub is : {q : Pass} {ns : List Node} → Arena w q ns → a < length ns → b < length ns → kindOf (nodeAt ns a) ≡ k → kindOf (nodeAt ns b) ≡ k
       → 1 ≤ k → k ≤ 4 → (functor : ℕ) → r ≡ are-output-types-disjoint functor ns a b
 
 -- of any two: "Set and lambda: disjoint unless the set has `__functor`"
-pub record Disjoint (s w : List ℕ) (functor a b : ℕ) (r : Bool) : Type 0 where
-  pub is : {q : Pass} {ns : List Node} → Arena s w q ns → a < length ns → b < length ns → r ≡ are-output-types-disjoint functor ns a b
+pub record Disjoint (w : List ℕ) (functor a b : ℕ) (r : Bool) : Type 0 where
+  pub is : {q : Pass} {ns : List Node} → Arena w q ns → a < length ns → b < length ns → r ≡ are-output-types-disjoint functor ns a b

@@ -1,22 +1,22 @@
 // OutputTy's children and order.
+use cells::add;
+use cells::get;
+use cells::place;
 use crate::arena::OutputTy;
 use crate::arena::kind;
 use crate::arena::word;
 use crate::attrset;
 use crate::disjoint::set_place;
-use cells::add;
-use cells::get;
-use cells::place;
 ghost use Rattle.lang_ty.specs.Orders.{FirstChild, Children, ChildAt, Numbers, Least, SetItems, SetRest, SetItem, PlainItems, PlainItem, ListItem, Items, ItemAt, Plainly, ComparedAt, Compared};
 
 // How many children node x has.
-pub fn children(starts: &[u32], words: &[u32], x: u32) -> u32
-    ensures { λ r. ⌜ Children (now (starts .entry)) (now (words .entry)) x r ⌝ }
+pub fn children(arena: &[u32], x: u32) -> u32
+    ensures { λ r. ⌜ Children (now (arena .entry)) x r ⌝ }
 {
-    let k = kind(starts, words, x);
+    let k = kind(arena, x);
     if k == OutputTy::ATTR_SET {
-        let a = set_place(starts, x);
-        return add(attrset::fields(words, a), attrset::dyns(words, a));
+        let a = set_place(arena, x);
+        return add(attrset::fields(arena, a), attrset::dyns(arena, a));
     }
     if k == OutputTy::LAMBDA {
         return 2;
@@ -30,7 +30,7 @@ pub fn children(starts: &[u32], words: &[u32], x: u32) -> u32
     if k == OutputTy::NEG {
         return 1;
     }
-    crate::arena::count(starts, words, x)
+    crate::arena::count(arena, x)
 }
 
 // The word of a row from which on the children of a node of kind k stand; not of a set.
@@ -50,18 +50,18 @@ fn first_child(k: u32) -> u32
 }
 
 // Child i of node x, from left to right: fields, then dyn.
-pub fn child(starts: &[u32], words: &[u32], x: u32, i: u32) -> u32
-    ensures { λ r. ⌜ ChildAt (now (starts .entry)) (now (words .entry)) x i r ⌝ }
+pub fn child(arena: &[u32], x: u32, i: u32) -> u32
+    ensures { λ r. ⌜ ChildAt (now (arena .entry)) x i r ⌝ }
 {
-    let k = kind(starts, words, x);
+    let k = kind(arena, x);
     if k != OutputTy::ATTR_SET {
-        return word(starts, words, x, add(i, first_child(k)));
+        return word(arena, x, add(i, first_child(k)));
     }
-    let a = set_place(starts, x);
-    if i < attrset::fields(words, a) {
-        return attrset::field_type(words, a, i);
+    let a = set_place(arena, x);
+    if i < attrset::fields(arena, a) {
+        return attrset::field_type(arena, a, i);
     }
-    attrset::dyn_type(words, a)
+    attrset::dyn_type(arena, a)
 }
 
 pub enum Order {
@@ -161,18 +161,18 @@ fn plain_items(k: u32) -> u32
 }
 
 // How many items node x has besides its kind.
-fn items(starts: &[u32], words: &[u32], x: u32) -> u32
-    ensures { λ r. ⌜ Items (now (starts .entry)) (now (words .entry)) x r ⌝ }
+fn items(arena: &[u32], x: u32) -> u32
+    ensures { λ r. ⌜ Items (now (arena .entry)) x r ⌝ }
 {
-    let k = kind(starts, words, x);
+    let k = kind(arena, x);
     if k == OutputTy::ATTR_SET {
-        return set_items(words, set_place(starts, x));
+        return set_items(arena, set_place(arena, x));
     }
     if k == OutputTy::UNION {
-        return add(word(starts, words, x, 1), 1);
+        return add(word(arena, x, 1), 1);
     }
     if k == OutputTy::INTERSECTION {
-        return add(word(starts, words, x, 1), 1);
+        return add(word(arena, x, 1), 1);
     }
     plain_items(k)
 }
@@ -194,30 +194,30 @@ fn plain_item(k: u32, i: u32, w: u32) -> Item
 }
 
 // Item i of a union or an intersection.
-fn list_item(starts: &[u32], words: &[u32], x: u32, i: u32) -> Item
-    ensures { λ r. ⌜ ListItem (now (starts .entry)) (now (words .entry)) x i r ⌝ }
+fn list_item(arena: &[u32], x: u32, i: u32) -> Item
+    ensures { λ r. ⌜ ListItem (now (arena .entry)) x i r ⌝ }
 {
-    if i < word(starts, words, x, 1) {
-        return Item::Child(word(starts, words, x, add(i, 2)));
+    if i < word(arena, x, 1) {
+        return Item::Child(word(arena, x, add(i, 2)));
     }
     Item::End
 }
 
 // Item i of node x.
-fn item_at(starts: &[u32], words: &[u32], x: u32, i: u32) -> Item
-    ensures { λ r. ⌜ ItemAt (now (starts .entry)) (now (words .entry)) x i r ⌝ }
+fn item_at(arena: &[u32], x: u32, i: u32) -> Item
+    ensures { λ r. ⌜ ItemAt (now (arena .entry)) x i r ⌝ }
 {
-    let k = kind(starts, words, x);
+    let k = kind(arena, x);
     if k == OutputTy::ATTR_SET {
-        return set_item(words, set_place(starts, x), i);
+        return set_item(arena, set_place(arena, x), i);
     }
     if k == OutputTy::UNION {
-        return list_item(starts, words, x, i);
+        return list_item(arena, x, i);
     }
     if k == OutputTy::INTERSECTION {
-        return list_item(starts, words, x, i);
+        return list_item(arena, x, i);
     }
-    plain_item(k, i, word(starts, words, x, add(i, 1)))
+    plain_item(k, i, word(arena, x, add(i, 1)))
 }
 
 // Two items, the first no child; an end comes first, a number before a child.
@@ -240,11 +240,11 @@ fn compare_plain(a: Item, b: Item) -> Order
 }
 
 // Item i of nodes a and b.
-fn compare_item(starts: &[u32], words: &[u32], a: u32, b: u32, i: u32) -> Order
-    ensures { λ r. ⌜ ComparedAt (now (starts .entry)) (now (words .entry)) a b i r ⌝ }
+fn compare_item(arena: &[u32], a: u32, b: u32, i: u32) -> Order
+    ensures { λ r. ⌜ ComparedAt (now (arena .entry)) a b i r ⌝ }
 {
-    let s = item_at(starts, words, a, i);
-    let t = item_at(starts, words, b, i);
+    let s = item_at(arena, a, i);
+    let t = item_at(arena, b, i);
     match s {
         Item::End => compare_plain(s, t),
         Item::Num(_) => compare_plain(s, t),
@@ -258,27 +258,27 @@ fn compare_item(starts: &[u32], words: &[u32], a: u32, b: u32, i: u32) -> Order
                 if a <= x {
                     return Order::Equal;
                 }
-                compare(starts, words, x, y)
+                compare(arena, x, y)
             }
         },
     }
 }
 
 // OutputTy::cmp in the order of the rules: by kind, then item by item, children by this same order; a child has a smaller number.
-pub fn compare(starts: &[u32], words: &[u32], a: u32, b: u32) -> Order
-    ensures { λ r. ⌜ Compared (now (starts .entry)) (now (words .entry)) a b r ⌝ }
+pub fn compare(arena: &[u32], a: u32, b: u32) -> Order
+    ensures { λ r. ⌜ Compared (now (arena .entry)) a b r ⌝ }
 {
-    let j = kind(starts, words, a);
-    let k = kind(starts, words, b);
+    let j = kind(arena, a);
+    let k = kind(arena, b);
     if j != k {
         return compare_numbers(j, k);
     }
-    let n = items(starts, words, a);
-    let m = items(starts, words, b);
+    let n = items(arena, a);
+    let m = items(arena, b);
     let l = least(n, m);
     let mut i = 0;
     while i < l {
-        match compare_item(starts, words, a, b, i) {
+        match compare_item(arena, a, b, i) {
             Order::Equal => {
                 i += 1;
             }

@@ -1,4 +1,4 @@
-// TypeArena: node i is words[starts[i]..starts[i + 1]], the number of its kind and then its contents. A new node's row is written behind
+// TypeArena: node i is arena[arena[i]..arena[i + 1]], the number of its kind and then its contents. A new node's row is written behind
 // the last one, compared with each row, and kept by a greater count or dropped by none.
 use cells::add;
 use cells::at;
@@ -54,43 +54,43 @@ pub enum Found {
 }
 
 // The word i of node x.
-pub fn word(starts: &[u32], words: &[u32], x: u32, i: u32) -> u32
-    ensures { λ r. ⌜ Word (now (starts .entry)) (now (words .entry)) x i r ⌝ }
+pub fn word(arena: &[u32], x: u32, i: u32) -> u32
+    ensures { λ r. ⌜ Word (now (arena .entry)) x i r ⌝ }
 {
-    get(words, place(at(starts, x), i))
+    get(arena, place(at(arena, x), i))
 }
 
-pub fn kind(starts: &[u32], words: &[u32], x: u32) -> u32
-    ensures { λ r. ⌜ Kind (now (starts .entry)) (now (words .entry)) x r ⌝ }
+pub fn kind(arena: &[u32], x: u32) -> u32
+    ensures { λ r. ⌜ Kind (now (arena .entry)) x r ⌝ }
 {
-    word(starts, words, x, 0)
+    word(arena, x, 0)
 }
 
-pub fn is(starts: &[u32], words: &[u32], k: u32, x: u32) -> bool
-    ensures { λ r. ⌜ Is (now (starts .entry)) (now (words .entry)) k x r ⌝ }
+pub fn is(arena: &[u32], k: u32, x: u32) -> bool
+    ensures { λ r. ⌜ Is (now (arena .entry)) k x r ⌝ }
 {
-    kind(starts, words, x) == k
+    kind(arena, x) == k
 }
 
 // How many members a union or an intersection has; a node of another kind has none.
-pub fn count(starts: &[u32], words: &[u32], x: u32) -> u32
-    ensures { λ r. ⌜ Count (now (starts .entry)) (now (words .entry)) x r ⌝ }
+pub fn count(arena: &[u32], x: u32) -> u32
+    ensures { λ r. ⌜ Count (now (arena .entry)) x r ⌝ }
 {
-    let k = kind(starts, words, x);
+    let k = kind(arena, x);
     if k == OutputTy::UNION {
-        return word(starts, words, x, 1);
+        return word(arena, x, 1);
     }
     if k == OutputTy::INTERSECTION {
-        return word(starts, words, x, 1);
+        return word(arena, x, 1);
     }
     0
 }
 
 // Member i of a union or an intersection.
-pub fn member(starts: &[u32], words: &[u32], x: u32, i: u32) -> u32
-    ensures { λ r. ⌜ Member (now (starts .entry)) (now (words .entry)) x i r ⌝ }
+pub fn member(arena: &[u32], x: u32, i: u32) -> u32
+    ensures { λ r. ⌜ Member (now (arena .entry)) x i r ⌝ }
 {
-    word(starts, words, x, add(i, 2))
+    word(arena, x, add(i, 2))
 }
 
 // Whether the n words from a on are the n words from b on.
@@ -108,24 +108,24 @@ fn same(words: &[u32], a: u32, b: u32, n: u32) -> bool
 }
 
 // Whether row i is the len words from top on.
-fn row_is(starts: &[u32], words: &[u32], i: u32, top: u32, len: u32) -> bool
-    ensures { λ r. ⌜ RowIs (now (starts .entry)) (now (words .entry)) i top len r ⌝ }
+fn row_is(arena: &[u32], i: u32, top: u32, len: u32) -> bool
+    ensures { λ r. ⌜ RowIs (now (arena .entry)) i top len r ⌝ }
 {
-    let a = at(starts, i);
-    let e = get(starts, place(i, 1));
+    let a = at(arena, i);
+    let e = get(arena, place(i, 1));
     if e != add(a, len) {
         return false;
     }
-    same(words, top, a, len)
+    same(arena, top, a, len)
 }
 
 // The first row that equals the len words from top on.
-fn find(starts: &[u32], words: &[u32], nodes: u32, top: u32, len: u32) -> Found
-    ensures { λ r. ⌜ Sought (now (starts .entry)) (now (words .entry)) nodes top len r ⌝ }
+fn find(arena: &[u32], nodes: u32, top: u32, len: u32) -> Found
+    ensures { λ r. ⌜ Sought (now (arena .entry)) nodes top len r ⌝ }
 {
     let mut i = 0;
     while i < nodes {
-        if row_is(starts, words, i, top, len) {
+        if row_is(arena, i, top, len) {
             return Found::At(i);
         }
         i += 1;
@@ -134,8 +134,8 @@ fn find(starts: &[u32], words: &[u32], nodes: u32, top: u32, len: u32) -> Found
 }
 
 // The new row as the next node, with its cells.
-fn keep(starts: &mut [u32], q: Pass, end: u32, cells: u32) -> Given
-    ensures { λ r. ⌜ Kept (now (starts .entry)) q end cells (now (starts .exit)) r ⌝ }
+fn keep(arena: &mut [u32], q: Pass, end: u32, cells: u32) -> Given
+    ensures { λ r. ⌜ Kept (now (arena .entry)) q end cells (now (arena .exit)) r ⌝ }
 {
     let n = q.nodes;
     if Pass::NODES <= n {
@@ -145,7 +145,7 @@ fn keep(starts: &mut [u32], q: Pass, end: u32, cells: u32) -> Given
     if Pass::CELLS < sum {
         return Given::Refused(9);
     }
-    put(starts, place(n, 1), end);
+    put(arena, place(n, 1), end);
     let r = Pass {
         nodes: n + 1,
         cells: sum,
@@ -157,23 +157,23 @@ fn keep(starts: &mut [u32], q: Pass, end: u32, cells: u32) -> Given
 }
 
 // TypeArena::intern: the node whose row is the len words behind the last row: the number of the one that is there, or the next.
-pub fn intern(starts: &mut [u32], words: &[u32], q: Pass, len: u32, cells: u32) -> Given
-    ensures { λ r. ⌜ Interned (now (starts .entry)) (now (words .entry)) q len cells (now (starts .exit)) r ⌝ }
+pub fn intern(arena: &mut [u32], q: Pass, len: u32, cells: u32) -> Given
+    ensures { λ r. ⌜ Interned (now (arena .entry)) q len cells (now (arena .exit)) r ⌝ }
 {
     let n = q.nodes;
-    let top = at(starts, n);
-    match find(starts, words, n, top, len) {
+    let top = at(arena, n);
+    match find(arena, n, top, len) {
         Found::At(i) => Given::Node(i, q),
-        Found::Nowhere => keep(starts, q, add(top, len), cells),
+        Found::Nowhere => keep(arena, q, add(top, len), cells),
     }
 }
 
 // The first word that no row has.
-pub fn top(starts: &[u32], q: Pass) -> u32
-    ensures { λ r. ⌜ Top (now (starts .entry)) q r ⌝ }
+pub fn top(arena: &[u32], q: Pass) -> u32
+    ensures { λ r. ⌜ Top (now (arena .entry)) q r ⌝ }
 {
     let n = q.nodes;
-    at(starts, n)
+    at(arena, n)
 }
 
 // Two numbers, written from t on.
@@ -185,39 +185,41 @@ fn write_two(words: &mut [u32], t: u32, a: u32, b: u32)
 }
 
 // A node of its kind alone: Bottom or Top.
-pub fn store_leaf(starts: &mut [u32], words: &mut [u32], q: Pass, kind: u32) -> Given
-    ensures { λ r. ⌜ Stored (kind ∷ []) 0 (now (starts .entry)) (now (words .entry)) q (now (starts .exit)) (now (words .exit)) r ⌝ }
+pub fn store_leaf(arena: &mut [u32], q: Pass, kind: u32) -> Given
+    ensures { λ r. ⌜ Stored (kind ∷ []) 0 (now (arena .entry)) q (now (arena .exit)) r ⌝ }
 {
-    set(words, top(starts, q), kind);
-    intern(starts, words, q, 1, 0)
+    let t = top(arena, q);
+    set(arena, t, kind);
+    intern(arena, q, 1, 0)
 }
 
 // A node of a kind and one number: a variable, a primitive, a list, a negation.
-pub fn store_one(starts: &mut [u32], words: &mut [u32], q: Pass, kind: u32, a: u32) -> Given
-    ensures { λ r. ⌜ Stored (kind ∷ a ∷ []) 0 (now (starts .entry)) (now (words .entry)) q (now (starts .exit)) (now (words .exit)) r ⌝ }
+pub fn store_one(arena: &mut [u32], q: Pass, kind: u32, a: u32) -> Given
+    ensures { λ r. ⌜ Stored (kind ∷ a ∷ []) 0 (now (arena .entry)) q (now (arena .exit)) r ⌝ }
 {
-    write_two(words, top(starts, q), kind, a);
-    intern(starts, words, q, 2, 0)
+    let t = top(arena, q);
+    write_two(arena, t, kind, a);
+    intern(arena, q, 2, 0)
 }
 
 // A node of a kind and two numbers: a function, a named type.
-pub fn store_two(starts: &mut [u32], words: &mut [u32], q: Pass, kind: u32, a: u32, b: u32) -> Given
-    ensures { λ r. ⌜ Stored (kind ∷ a ∷ b ∷ []) 0 (now (starts .entry)) (now (words .entry)) q (now (starts .exit)) (now (words .exit)) r ⌝ }
+pub fn store_two(arena: &mut [u32], q: Pass, kind: u32, a: u32, b: u32) -> Given
+    ensures { λ r. ⌜ Stored (kind ∷ a ∷ b ∷ []) 0 (now (arena .entry)) q (now (arena .exit)) r ⌝ }
 {
-    let t = top(starts, q);
-    write_two(words, t, kind, a);
-    put(words, place(t, 2), b);
-    intern(starts, words, q, 3, 0)
+    let t = top(arena, q);
+    write_two(arena, t, kind, a);
+    put(arena, place(t, 2), b);
+    intern(arena, q, 3, 0)
 }
 
 // A union or an intersection of two members.
-pub fn store_both(starts: &mut [u32], words: &mut [u32], q: Pass, kind: u32, a: u32, b: u32) -> Given
-    ensures { λ r. ⌜ Stored (kind ∷ 2 ∷ a ∷ b ∷ []) 2 (now (starts .entry)) (now (words .entry)) q (now (starts .exit)) (now (words .exit)) r ⌝ }
+pub fn store_both(arena: &mut [u32], q: Pass, kind: u32, a: u32, b: u32) -> Given
+    ensures { λ r. ⌜ Stored (kind ∷ 2 ∷ a ∷ b ∷ []) 2 (now (arena .entry)) q (now (arena .exit)) r ⌝ }
 {
-    let t = top(starts, q);
-    write_two(words, t, kind, 2);
-    write_two(words, add(t, 2), a, b);
-    intern(starts, words, q, 4, 2)
+    let t = top(arena, q);
+    write_two(arena, t, kind, 2);
+    write_two(arena, add(t, 2), a, b);
+    intern(arena, q, 4, 2)
 }
 
 // Number i from a on in another slice, written to place i from t on.
@@ -239,14 +241,14 @@ fn copy(words: &mut [u32], t: u32, from: &[u32], a: u32, n: u32)
 }
 
 // A union or an intersection of the n numbers from a on in another slice; 7 where they are too many.
-pub fn store_list(starts: &mut [u32], words: &mut [u32], q: Pass, kind: u32, from: &[u32], a: u32, n: u32) -> Given
-    ensures { λ r. ⌜ Listed kind (now (from .entry)) a n (now (starts .entry)) (now (words .entry)) q (now (starts .exit)) (now (words .exit)) r ⌝ }
+pub fn store_list(arena: &mut [u32], q: Pass, kind: u32, from: &[u32], a: u32, n: u32) -> Given
+    ensures { λ r. ⌜ Listed kind (now (from .entry)) a n (now (arena .entry)) q (now (arena .exit)) r ⌝ }
 {
     if Pass::MEMBERS < n {
         return Given::Refused(7);
     }
-    let t = top(starts, q);
-    write_two(words, t, kind, n);
-    copy(words, add(t, 2), from, a, n);
-    intern(starts, words, q, n + 2, n)
+    let t = top(arena, q);
+    write_two(arena, t, kind, n);
+    copy(arena, add(t, 2), from, a, n);
+    intern(arena, q, n + 2, n)
 }

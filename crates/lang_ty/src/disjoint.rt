@@ -1,17 +1,17 @@
 // Constructor-shape disjointness.
-use crate::arena;
-use crate::arena::OutputTy;
-use crate::attrset;
-use crate::primitive;
 use cells::add;
 use cells::at;
+use crate::arena::OutputTy;
+use crate::arena;
+use crate::attrset;
+use crate::primitive;
 ghost use Rattle.lang_ty.specs.Shapes.{SetPlace, Alone, Lacks, Apart, Constructor, SameDisjoint, Disjoint};
 
 // The set's place in the row of node x.
-pub fn set_place(starts: &[u32], x: u32) -> u32
-    ensures { λ r. ⌜ SetPlace (now (starts .entry)) x r ⌝ }
+pub fn set_place(arena: &[u32], x: u32) -> u32
+    ensures { λ r. ⌜ SetPlace (now (arena .entry)) x r ⌝ }
 {
-    add(at(starts, x), 1)
+    add(at(arena, x), 1)
 }
 
 // Whether the set at b requires the field k, and the one at a lacks it.
@@ -65,29 +65,29 @@ pub fn is_constructor(k: u32) -> bool
 }
 
 // Two nodes of one constructor.
-fn same_disjoint(starts: &[u32], words: &[u32], k: u32, a: u32, b: u32) -> bool
-    ensures { λ r. ⌜ SameDisjoint (now (starts .entry)) (now (words .entry)) k a b r ⌝ }
+fn same_disjoint(arena: &[u32], k: u32, a: u32, b: u32) -> bool
+    ensures { λ r. ⌜ SameDisjoint (now (arena .entry)) k a b r ⌝ }
 {
     if k == OutputTy::PRIMITIVE {
-        return primitives_disjoint(arena::word(starts, words, a, 1), arena::word(starts, words, b, 1));
+        return primitives_disjoint(arena::word(arena, a, 1), arena::word(arena, b, 1));
     }
     if k != OutputTy::ATTR_SET {
         return false;
     }
-    let s = set_place(starts, a);
-    let t = set_place(starts, b);
-    if lacks(words, s, t) {
+    let s = set_place(arena, a);
+    let t = set_place(arena, b);
+    if lacks(arena, s, t) {
         return true;
     }
-    lacks(words, t, s)
+    lacks(arena, t, s)
 }
 
 // are_output_types_disjoint with are_shapes_disjoint; functor is the number of the name `__functor`.
-pub fn are_shapes_disjoint(starts: &[u32], words: &[u32], functor: u32, a: u32, b: u32) -> bool
-    ensures { λ r. ⌜ Disjoint (now (starts .entry)) (now (words .entry)) functor a b r ⌝ }
+pub fn are_shapes_disjoint(arena: &[u32], functor: u32, a: u32, b: u32) -> bool
+    ensures { λ r. ⌜ Disjoint (now (arena .entry)) functor a b r ⌝ }
 {
-    let j = arena::kind(starts, words, a);
-    let k = arena::kind(starts, words, b);
+    let j = arena::kind(arena, a);
+    let k = arena::kind(arena, b);
     if !is_constructor(j) {
         return false;
     }
@@ -95,11 +95,11 @@ pub fn are_shapes_disjoint(starts: &[u32], words: &[u32], functor: u32, a: u32, 
         return false;
     }
     if j == k {
-        return same_disjoint(starts, words, j, a, b);
+        return same_disjoint(arena, j, a, b);
     }
     if j == OutputTy::ATTR_SET {
         if k == OutputTy::LAMBDA {
-            return !attrset::has_field(words, set_place(starts, a), functor);
+            return !attrset::has_field(arena, set_place(arena, a), functor);
         }
         return true;
     }
@@ -109,5 +109,5 @@ pub fn are_shapes_disjoint(starts: &[u32], words: &[u32], functor: u32, a: u32, 
     if k != OutputTy::ATTR_SET {
         return true;
     }
-    !attrset::has_field(words, set_place(starts, b), functor)
+    !attrset::has_field(arena, set_place(arena, b), functor)
 }

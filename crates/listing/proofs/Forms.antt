@@ -9,6 +9,7 @@ use lib.Dec.{eqb, leb}
 use borrow.Author.Tests.{eq-eqb, ne-eqb, le-leb, lt-leb, not-true, not-false}
 use Rattle.cells.specs.Part.{if, cell, part}
 use Rattle.cells.proofs.Parts.{run-length}
+use Rattle.rules.specs.Ceilings.{mostMembers, mostNodes}
 use Rattle.rules.specs.Plain.{Maybe, none, some, both, ascending}
 use Rattle.rules.specs.Table.{attrAt, allBelow, keysIn, keysAscend}
 use Rattle.rules.specs.Types.{Node, TyVar, Primitive, ListOf, Lambda, AttrSet, Union, Intersection, Named, Neg, Bottom, Top}
@@ -16,7 +17,7 @@ use Rattle.rules.specs.Listing.{nodeOf, nodeFits, within, forRoot, nodesAfter}
 use Rattle.text.specs.declared.Num.{Num}
 use Rattle.text.specs.declared.Num.the-variants.{No, Is}
 use Rattle.text.specs.Reads.{numOf}
-use Rattle.table.specs.declared.Places.{Places}
+use Rattle.table.specs.declared.rows.Places.{Places}
 use Rattle.table.specs.Rows.{At, Ascend, Below, Placed, SetKnown, KeysKnown}
 use Rattle.table.proofs.Entries.{part-every, set-keys, set-optional}
 use Rattle.listing.specs.Olds.{row, SetFits, MembersFit, NodeFits, Within, ForRoot, Count}
@@ -65,12 +66,12 @@ module _ {w : List ℕ} {to names i : ℕ} {x : Bool} (k : SetKnown w 0 to i x) 
 
 -- members
 module _ {w : List ℕ} {to i n : ℕ} {b : Bool} (a : At w 0 to 1 n) (h : Below w 0 to 2 1 n i b) where
-  members-so : (c : Bool) → b ≡ c → both (allBelow i (part (row w to) 2 (cell (row w to) 1))) (λ _. leb (cell (row w to) 1) 128) ≡ both c (λ _. leb n 128)
+  members-so : (c : Bool) → b ≡ c → both (allBelow i (part (row w to) 2 (cell (row w to) 1))) (λ _. leb (cell (row w to) 1) mostMembers) ≡ both c (λ _. leb n mostMembers)
   members-so c e =
-      ap (λ (m : ℕ). both (allBelow i (part (row w to) 2 m)) (λ _. leb m 128)) (sym (a .is))
-      ∙ ap (λ (t : Bool). both t (λ _. leb n 128)) (ap (allBelow i) (part-every (row w to) 2 n) ∙ sym (h .is) ∙ e)
+      ap (λ (m : ℕ). both (allBelow i (part (row w to) 2 m)) (λ _. leb m mostMembers)) (sym (a .is))
+      ∙ ap (λ (t : Bool). both t (λ _. leb n mostMembers)) (ap (allBelow i) (part-every (row w to) 2 n) ∙ sym (h .is) ∙ e)
 
-  pub members-yes : b ≡ true → MembersFit w to i (leb n 128)
+  pub members-yes : b ≡ true → MembersFit w to i (leb n mostMembers)
   members-yes e = record { is = sym (members-so true e) }
 
   pub members-no : b ≡ false → MembersFit w to i false
@@ -106,11 +107,11 @@ plain names i k r a b c d e f g =
     pick false false true = refl
     pick false false false = refl
 
-some-members : (w : List ℕ) (to i : ℕ) (b : Bool) → MembersFit w to i b → b ≡ both (allBelow i (part (row w to) 2 (cell (row w to) 1))) (λ _. both (leb (length (part (row w to) 2 (cell (row w to) 1))) 128) (λ _. true))
+some-members : (w : List ℕ) (to i : ℕ) (b : Bool) → MembersFit w to i b → b ≡ both (allBelow i (part (row w to) 2 (cell (row w to) 1))) (λ _. both (leb (length (part (row w to) 2 (cell (row w to) 1))) mostMembers) (λ _. true))
 some-members w to i b h =
     h .is
-    ∙ ap (λ (n : ℕ). both (allBelow i (part (row w to) 2 (cell (row w to) 1))) (λ _. leb n 128)) (sym (run-length (cell (row w to)) 2 (cell (row w to) 1)))
-    ∙ ap (λ (t : Bool). both (allBelow i (part (row w to) 2 (cell (row w to) 1))) (λ _. t)) (sym (both-true (leb (length (part (row w to) 2 (cell (row w to) 1))) 128)))
+    ∙ ap (λ (n : ℕ). both (allBelow i (part (row w to) 2 (cell (row w to) 1))) (λ _. leb n mostMembers)) (sym (run-length (cell (row w to)) 2 (cell (row w to) 1)))
+    ∙ ap (λ (t : Bool). both (allBelow i (part (row w to) 2 (cell (row w to) 1))) (λ _. t)) (sym (both-true (leb (length (part (row w to) 2 (cell (row w to) 1))) mostMembers)))
 
 module _ {w : List ℕ} {to names i kind : ℕ} (a : At w 0 to 0 kind) where
   of-kind : {b : Bool} (k : ℕ) → kind ≡ k → b ≡ nodeFits names i (nodeBy k (row w to)) → NodeFits w to names i b
@@ -163,13 +164,13 @@ countBy k f p q r n =
     (λ _. if (both (both (eqb k 2) (λ _. f)) (λ _. r)) (λ _. some 0) (λ _. none))
 
 module _ {w : List ℕ} {to id sign k x n : ℕ} {f : Bool} (hk : At w 0 to 0 k) (hx : At w 0 to 3 x) (hn : At w 0 to 7 n) (hf : ForRoot w to id sign f) where
-  count-so : countBy k f (within 1 2 x) (within 1 4096 n) (within 6 9 x) n ≡ nodesAfter (id ∷ sign ∷ []) (some (row w to))
+  count-so : countBy k f (within 1 2 x) (within 1 mostNodes n) (within 6 9 x) n ≡ nodesAfter (id ∷ sign ∷ []) (some (row w to))
   count-so =
-      ap (λ (j : ℕ). countBy j f (within 1 2 x) (within 1 4096 n) (within 6 9 x) n) (hk .is)
-      ∙ ap (λ (g : Bool). countBy (cell (row w to) 0) g (within 1 2 x) (within 1 4096 n) (within 6 9 x) n) (hf .is)
-      ∙ ap₂ {C = Maybe ℕ} (λ (y m : ℕ). countBy (cell (row w to) 0) (forRoot (id ∷ sign ∷ []) (row w to)) (within 1 2 y) (within 1 4096 m) (within 6 9 y) m) (hx .is) (hn .is)
+      ap (λ (j : ℕ). countBy j f (within 1 2 x) (within 1 mostNodes n) (within 6 9 x) n) (hk .is)
+      ∙ ap (λ (g : Bool). countBy (cell (row w to) 0) g (within 1 2 x) (within 1 mostNodes n) (within 6 9 x) n) (hf .is)
+      ∙ ap₂ {C = Maybe ℕ} (λ (y m : ℕ). countBy (cell (row w to) 0) (forRoot (id ∷ sign ∷ []) (row w to)) (within 1 2 y) (within 1 mostNodes m) (within 6 9 y) m) (hx .is) (hn .is)
 
-  counted : (r : Num) → numOf r ≡ countBy k f (within 1 2 x) (within 1 4096 n) (within 6 9 x) n → Count w to id sign r
+  counted : (r : Num) → numOf r ≡ countBy k f (within 1 2 x) (within 1 mostNodes n) (within 6 9 x) n → Count w to id sign r
   counted r e = record { is = e ∙ count-so }
 
   pub count-other : not f ≡ true → Count w to id sign No
@@ -180,7 +181,7 @@ module _ {w : List ℕ} {to id sign k x n : ℕ} {f : Bool} (hk : At w 0 to 0 k)
       pub count-passes : not p ≡ true → Count w to id sign No
       count-passes ep = counted No (sym (simp (not-false f ef, eq-eqb k 1 e, ne-eqb k 2 (omega arith), sym (hp .is), not-true p ep)))
 
-      module _ (ep : not p ≡ false) {q : Bool} (hq : Within 1 4096 n q) where
+      module _ (ep : not p ≡ false) {q : Bool} (hq : Within 1 mostNodes n q) where
         pub count-many : not q ≡ true → Count w to id sign No
         count-many eq = counted No (sym (simp (not-false f ef, eq-eqb k 1 e, ne-eqb k 2 (omega arith), sym (hp .is), not-false p ep, sym (hq .is), not-true q eq)))
 

@@ -13,6 +13,8 @@ use lib.Dec.{eqb}
 use borrow.Author.Tests.{eq-eqb, ne-eqb, lt-ltb, le-ltb, not-true, not-false, eqb-true}
 use Rattle.cells.specs.Part.{if, cell, run}
 use Rattle.cells.proofs.Parts.{run-snoc, run-ext}
+use Rattle.layout.specs.Layout.{lineLength}
+use Rattle.rules.specs.Ceilings.{mostText}
 use Rattle.rules.specs.Plain.{Maybe, none, some, both}
 use Rattle.rules.specs.Text.{tab, lineFeed, cut, pieces, parted, number, byWord, rowOf}
 use Rattle.rules.specs.Table.{Result, accepted, refused, then}
@@ -27,9 +29,9 @@ use Rattle.text.proofs.Spans.{span-none, span-next, span-snoc, span-append, spa
 use Rattle.table.specs.Rows.{At}
 use Rattle.listing.specs.declared.old.Old.{Old}
 use Rattle.listing.specs.declared.old.Old.the-variants.{InForm, Refused}
-use Rattle.listing.specs.declared.old.Next.{Next}
-use Rattle.listing.specs.declared.old.Next.the-variants.{At as AtV, Fault}
-use Rattle.listing.specs.Olds.{row, NodeFits, NodeLine, Ready, takingAt, nextOf, Goes, Nodes, Count, After, Root, Given, RootWord, rootSpan, Roots, IsAnswers, Read}
+use Rattle.listing.specs.declared.old.Reached.{Reached}
+use Rattle.listing.specs.declared.old.Reached.the-variants.{At as AtV, Fault}
+use Rattle.listing.specs.Olds.{row, NodeFits, NodeLine, Ready, takingAt, nextOf, Goes, Nodes, Count, After, Root, RootsAt, RootWord, rootSpan, Roots, IsAnswers, Read}
 
 -- a line's row, or none
 pub after-bad : {s w w′ : List ℕ} {from to id sign : ℕ} {r : Got} → Row headKinds s from to 0 w w′ r → r ≡ Bad → After s from to id sign No
@@ -239,7 +241,7 @@ root-so s from k e names id sign x root y l a p q =
     ap₂ {C = Result Taking} (λ (d : Taking) (m : Maybe ℕ). takeAfter names d m k) (sym (taken-so s from from e k (omega arith) y l)) (a .is ∙ same-root root id sign (rowOf headKinds (span s from e)) p q)
     ∙ sym (next-here k (λ l ls. takeAfter names (taken (takingAt s from from k) l ls) (nodesAfter root (rowOf headKinds l)) k) s from (length s) e y l)
 
-goes-from : (s : List ℕ) (from at : ℕ) (r : Next) → from ≤ at → Goes s at r → Goes s from r
+goes-from : (s : List ℕ) (from at : ℕ) (r : Reached) → from ≤ at → Goes s at r → Goes s from r
 goes-from s from at (AtV p k) h g = (omega (arith, g .0), g .1, g .2)
 goes-from s from at (Fault k) h g = tt
 
@@ -257,7 +259,7 @@ module _ {s : List ℕ} {from k e names id sign : ℕ} (y : Seek s from (length 
       goes = tt;
     }
 
-    pub root-good : {n : ℕ} {r : Next} → x ≡ Is n → Nodes s (e + 1) (k + 1) names n r → Root s from k names id sign r
+    pub root-good : {n : ℕ} {r : Reached} → x ≡ Is n → Nodes s (e + 1) (k + 1) names n r → Root s from k names id sign r
     root-good {n} {r} f b = record {
       is = λ root p q.
           b .is from (omega (arith, y .low))
@@ -318,15 +320,15 @@ abbrev rootsFrom : List ℕ → ℕ → List (List ℕ) → List ℕ → ℕ →
 rootsFrom s names rs spans at line i =
     then (takeRoots names (drop i rs) (takingAt s at at line)) (λ (ts : List (List ℕ)). accepted (run (rootSpan s (set spans i at)) 0 i ++ ts))
 
-pub record Rooting (s : List ℕ) (from names : ℕ) (rows table : List ℕ) (first n : ℕ) (spans₀ spans : List ℕ) (at line i : ℕ) : Type 0 where
+pub record Rooting (s : List ℕ) (from names : ℕ) (table : List ℕ) (first n : ℕ) (spans₀ spans : List ℕ) (at line i : ℕ) : Type 0 where
   pub few : i ≤ n
   pub high : at ≤ length s
   pub early : line ≤ at + 1
   pub kept : length spans ≡ length spans₀
-  pub is : (rs : List (List ℕ)) → Given rs rows table first n → n < length spans₀ → rootsFrom s names rs spans at line i ≡ takeRoots names rs (takingAt s 0 from 2)
+  pub is : (rs : List (List ℕ)) → RootsAt rs table first n → n < length spans₀ → rootsFrom s names rs spans at line i ≡ takeRoots names rs (takingAt s 0 from 2)
 
-pub rooting-start : {s w rows table spans : List ℕ} {from names first n : ℕ} → Ready s from 2 w → Rooting s from names rows table first n spans spans from 2 0
-rooting-start {s} {w} {rows} {table} {spans} {from} {names} h = record {
+pub rooting-start : {s w table spans : List ℕ} {from names first n : ℕ} → Ready s from 2 w → Rooting s from names table first n spans spans from 2 0
+rooting-start {s} {w} {table} {spans} {from} {names} h = record {
   few = omega arith;
   high = h .within;
   early = h .early;
@@ -359,7 +361,7 @@ got-more s spans at q i h =
     here = ap₂ {C = List ℕ} (span s) first second
 
 -- root i, and those behind it
-step-so : (s : List ℕ) (names at line i : ℕ) (spans : List ℕ) (rs : List (List ℕ)) (r : Next) → i < length rs → nextOf s at r ≡ takeRoot names (getD rs i []) (takingAt s at at line) → then (then (nextOf s at r) (λ (d : Taking). then (takeRoots names (drop (i + 1) rs) d) (λ (ts : List (List ℕ)). accepted (d .text ∷ ts)))) (λ (ts : List (List ℕ)). accepted (run (rootSpan s (set spans i at)) 0 i ++ ts)) ≡ rootsFrom s names rs spans at line i
+step-so : (s : List ℕ) (names at line i : ℕ) (spans : List ℕ) (rs : List (List ℕ)) (r : Reached) → i < length rs → nextOf s at r ≡ takeRoot names (getD rs i []) (takingAt s at at line) → then (then (nextOf s at r) (λ (d : Taking). then (takeRoots names (drop (i + 1) rs) d) (λ (ts : List (List ℕ)). accepted (d .text ∷ ts)))) (λ (ts : List (List ℕ)). accepted (run (rootSpan s (set spans i at)) 0 i ++ ts)) ≡ rootsFrom s names rs spans at line i
 step-so s names at line i spans rs r l e =
     ap (λ (o : Result Taking). outer (then o (λ (d : Taking). then (takeRoots names (drop (i + 1) rs) d) (λ (ts : List (List ℕ)). accepted (d .text ∷ ts)))))
     (e ∙ ap (λ (x : List ℕ). takeRoot names (getD rs i []) (record { text = x; line = line; rest = pieces lineFeed (span s at (length s)) })) (span-none s at at (omega arith)))
@@ -369,20 +371,20 @@ step-so s names at line i spans rs r l e =
     outer : Result (List (List ℕ)) → Result (List (List ℕ))
     outer m = then m (λ (ts : List (List ℕ)). accepted (run (rootSpan s (set spans i at)) 0 i ++ ts))
 
-module _ {s rows table spans₀ spans spans₁ : List ℕ} {from names first n at line i id sign : ℕ} {r : Next} (inv : Rooting s from names rows table first n spans₀ spans at line i) (lt : i < n) (st : spans₁ ≡ set spans i at) (a : RootWord rows table first i 1 id) (b : RootWord rows table first i 2 sign) (h : Root s at line names id sign r) where
-  root-here : (rs : List (List ℕ)) → Given rs rows table first n → nextOf s at r ≡ takeRoot names (getD rs i []) (takingAt s at at line)
+module _ {s table spans₀ spans spans₁ : List ℕ} {from names first n at line i id sign : ℕ} {r : Reached} (inv : Rooting s from names table first n spans₀ spans at line i) (lt : i < n) (st : spans₁ ≡ set spans i at) (a : RootWord table first i 1 id) (b : RootWord table first i 2 sign) (h : Root s at line names id sign r) where
+  root-here : (rs : List (List ℕ)) → RootsAt rs table first n → nextOf s at r ≡ takeRoot names (getD rs i []) (takingAt s at at line)
   root-here rs g = h .is (getD rs i []) (a .is ∙ g .ids i lt) (b .is ∙ g .signs i lt)
 
-  step-here : (rs : List (List ℕ)) → Given rs rows table first n → n < length spans₀ → (z : Next) → r ≡ z → then (then (nextOf s at z) (λ (d : Taking). then (takeRoots names (drop (i + 1) rs) d) (λ (ts : List (List ℕ)). accepted (d .text ∷ ts)))) (λ (ts : List (List ℕ)). accepted (run (rootSpan s (set spans i at)) 0 i ++ ts)) ≡ takeRoots names rs (takingAt s 0 from 2)
+  step-here : (rs : List (List ℕ)) → RootsAt rs table first n → n < length spans₀ → (z : Reached) → r ≡ z → then (then (nextOf s at z) (λ (d : Taking). then (takeRoots names (drop (i + 1) rs) d) (λ (ts : List (List ℕ)). accepted (d .text ∷ ts)))) (λ (ts : List (List ℕ)). accepted (run (rootSpan s (set spans i at)) 0 i ++ ts)) ≡ takeRoots names rs (takingAt s 0 from 2)
   step-here rs g l z e =
-      ap (λ (y : Next). then (then (nextOf s at y) (λ (d : Taking). then (takeRoots names (drop (i + 1) rs) d) (λ (ts : List (List ℕ)). accepted (d .text ∷ ts)))) (λ (ts : List (List ℕ)). accepted (run (rootSpan s (set spans i at)) 0 i ++ ts))) (sym e)
+      ap (λ (y : Reached). then (then (nextOf s at y) (λ (d : Taking). then (takeRoots names (drop (i + 1) rs) d) (λ (ts : List (List ℕ)). accepted (d .text ∷ ts)))) (λ (ts : List (List ℕ)). accepted (run (rootSpan s (set spans i at)) 0 i ++ ts))) (sym e)
       ∙ step-so s names at line i spans rs r (let c = g .count in omega arith) (root-here rs g)
       ∙ inv .is rs g l
 
-  pub rooting-fault : {k : ℕ} → r ≡ Fault k → Roots s from names rows table first n spans₀ spans₁ (Refused k)
+  pub rooting-fault : {k : ℕ} → r ≡ Fault k → Roots s from names table first n spans₀ spans₁ (Refused k)
   rooting-fault {k} e = record { is = λ rs g l. step-here rs g l (Fault k) e }
 
-  pub rooting-more : {q k : ℕ} → r ≡ AtV q k → Rooting s from names rows table first n spans₀ spans₁ q k (i + 1)
+  pub rooting-more : {q k : ℕ} → r ≡ AtV q k → Rooting s from names table first n spans₀ spans₁ q k (i + 1)
   rooting-more {q} {k} e =
       let b : Goes s at (AtV q k) = subst (Goes s at) e (h .goes) in
       record {
@@ -399,25 +401,25 @@ module _ {s rows table spans₀ spans spans₁ : List ℕ} {from names first n a
       }
 
 -- behind the last root
-last-so : (s rows table spans₀ spans : List ℕ) (from names first n at line i : ℕ) (rs : List (List ℕ)) (o : Result (List (List ℕ))) → Rooting s from names rows table first n spans₀ spans at line i → n ≤ i → Given rs rows table first n → n < length spans₀ → atEnd line (pieces lineFeed (span s at (length s))) ≡ o → then o (λ (ts : List (List ℕ)). accepted (run (rootSpan s (set spans n at)) 0 n ++ ts)) ≡ takeRoots names rs (takingAt s 0 from 2)
-last-so s rows table spans₀ spans from names first n at line i rs o inv h g l e =
+last-so : (s table spans₀ spans : List ℕ) (from names first n at line i : ℕ) (rs : List (List ℕ)) (o : Result (List (List ℕ))) → Rooting s from names table first n spans₀ spans at line i → n ≤ i → RootsAt rs table first n → n < length spans₀ → atEnd line (pieces lineFeed (span s at (length s))) ≡ o → then o (λ (ts : List (List ℕ)). accepted (run (rootSpan s (set spans n at)) 0 n ++ ts)) ≡ takeRoots names rs (takingAt s 0 from 2)
+last-so s table spans₀ spans from names first n at line i rs o inv h g l e =
     ap₂ {C = Result (List (List ℕ))} (λ (m : Result (List (List ℕ))) (j : ℕ). then m (λ (ts : List (List ℕ)). accepted (run (rootSpan s (set spans j at)) 0 j ++ ts)))
     (sym e ∙ ap (λ (q : List (List ℕ)). takeRoots names q (takingAt s at at line)) (sym (drop-of-length-le rs {i = i} (let c = g .count in omega arith))))
     (let z : n ≡ i = omega (arith, inv .few) in z)
     ∙ inv .is rs g l
 
-module _ {s rows table spans₀ spans spans₁ : List ℕ} {from names first n at line i : ℕ} (inv : Rooting s from names rows table first n spans₀ spans at line i) (h : n ≤ i) (st : spans₁ ≡ set spans n at) where
-  pub rooting-surplus : at < length s → Roots s from names rows table first n spans₀ spans₁ (Refused line)
-  rooting-surplus l = record { is = λ rs g m. last-so s rows table spans₀ spans from names first n at line i rs (refused 11 line) inv h g m (end-surplus s at line l) }
+module _ {s table spans₀ spans spans₁ : List ℕ} {from names first n at line i : ℕ} (inv : Rooting s from names table first n spans₀ spans at line i) (h : n ≤ i) (st : spans₁ ≡ set spans n at) where
+  pub rooting-surplus : at < length s → Roots s from names table first n spans₀ spans₁ (Refused line)
+  rooting-surplus l = record { is = λ rs g m. last-so s table spans₀ spans from names first n at line i rs (refused 11 line) inv h g m (end-surplus s at line l) }
 
-  pub rooting-done : length s ≤ at → Roots s from names rows table first n spans₀ spans₁ InForm
+  pub rooting-done : length s ≤ at → Roots s from names table first n spans₀ spans₁ InForm
   rooting-done l = record {
     is = λ rs g m.
         ap (λ (q : List (List ℕ)). accepted q) (ap (λ (w : List ℕ). run (rootSpan s w) 0 n) st ∙ sym (append-nil (run (rootSpan s (set spans n at)) 0 n)))
-        ∙ last-so s rows table spans₀ spans from names first n at line i rs (accepted []) inv h g m (end-here s at line l);
+        ∙ last-so s table spans₀ spans from names first n at line i rs (accepted []) inv h g m (end-here s at line l);
   }
 
-pub rooting-ready : {s w w′ rows table spans₀ spans : List ℕ} {from names first n at line i : ℕ} → Ready s from 2 w → length w′ ≡ length w → Rooting s from names rows table first n spans₀ spans at line i → Ready s at line w′
+pub rooting-ready : {s w w′ table spans₀ spans : List ℕ} {from names first n at line i : ℕ} → Ready s from 2 w → length w′ ≡ length w → Rooting s from names table first n spans₀ spans at line i → Ready s at line w′
 rooting-ready g l inv = record { within = inv .high; short = g .short; early = inv .early; room = omega (arith, g .room) }
 
 -- the whole listing
@@ -425,24 +427,24 @@ abbrev firstLine : ℕ → List (List ℕ) → List ℕ → List (List ℕ) → 
 firstLine names rs l ls =
     if (isAnswers (length rs) (rowOf headKinds l)) (λ _. takeRoots names rs (record { text = []; line = 2; rest = ls })) (λ _. refused 11 1)
 
-old-so : (names : ℕ) (rs : List (List ℕ)) (s : List ℕ) → length s ≤ 65536 → nextLine 1 (pieces lineFeed (span s 0 (length s))) (firstLine names rs) ≡ oldListing names rs s
+old-so : (names : ℕ) (rs : List (List ℕ)) (s : List ℕ) → length s ≤ mostText → nextLine 1 (pieces lineFeed (span s 0 (length s))) (firstLine names rs) ≡ oldListing names rs s
 unfolding oldListing
 old-so names rs s h =
     ap (λ (l : List ℕ). nextLine 1 (pieces lineFeed l) (firstLine names rs)) (span-whole s)
-    ∙ ap (λ (b : Bool). if b (λ _. refused 11 0) (λ _. nextLine 1 (pieces lineFeed s) (firstLine names rs))) (sym (le-ltb 65536 (length s) h))
+    ∙ ap (λ (b : Bool). if b (λ _. refused 11 0) (λ _. nextLine 1 (pieces lineFeed s) (firstLine names rs))) (sym (le-ltb mostText (length s) h))
 
-long-so : (names : ℕ) (rs : List (List ℕ)) (s : List ℕ) → 65536 < length s → refused 11 0 ≡ oldListing names rs s
+long-so : (names : ℕ) (rs : List (List ℕ)) (s : List ℕ) → mostText < length s → refused 11 0 ≡ oldListing names rs s
 unfolding oldListing
-long-so names rs s h = ap (λ (b : Bool). if b (λ _. refused 11 0) (λ _. nextLine 1 (pieces lineFeed s) (firstLine names rs))) (sym (lt-ltb 65536 (length s) h))
+long-so names rs s h = ap (λ (b : Bool). if b (λ _. refused 11 0) (λ _. nextLine 1 (pieces lineFeed s) (firstLine names rs))) (sym (lt-ltb mostText (length s) h))
 
-module _ {s rows table spans w spans′ : List ℕ} {names first n : ℕ} where
-  pub old-long : 65536 < length s → Read s names rows table first n spans w spans′ (Refused 0)
+module _ {s table spans w spans′ : List ℕ} {names first n : ℕ} where
+  pub old-long : mostText < length s → Read s names table first n spans w spans′ (Refused 0)
   old-long h = record { is = λ rs g l m. long-so names rs s h }
 
-  pub old-poor : length w < 65536 → Read s names rows table first n spans w spans′ (Refused 0)
+  pub old-poor : length w < lineLength → Read s names table first n spans w spans′ (Refused 0)
   old-poor h = record { is = λ rs g l m. absurd (let z : ⊥ = omega arith in z) }
 
-first-so : (s : List ℕ) (names n e : ℕ) (rs : List (List ℕ)) (b t : Bool) → length s ≤ 65536 → Seek s 0 (length s) 10 e → e < length s → IsAnswers s 0 e n b → b ≡ t → length rs ≡ n → if t (λ _. takeRoots names rs (takingAt s 0 (e + 1) 2)) (λ _. refused 11 1) ≡ oldListing names rs s
+first-so : (s : List ℕ) (names n e : ℕ) (rs : List (List ℕ)) (b t : Bool) → length s ≤ mostText → Seek s 0 (length s) 10 e → e < length s → IsAnswers s 0 e n b → b ≡ t → length rs ≡ n → if t (λ _. takeRoots names rs (takingAt s 0 (e + 1) 2)) (λ _. refused 11 1) ≡ oldListing names rs s
 first-so s names n e rs b t h y l a f c =
     ap₂ {C = Result (List (List ℕ))} (λ (u : Bool) (o : Result (List (List ℕ))). if u (λ _. o) (λ _. refused 11 1))
     (sym f ∙ a .is ∙ ap (λ (m : ℕ). isAnswers m (rowOf headKinds (span s 0 e))) (sym c))
@@ -454,13 +456,13 @@ first-so s names n e rs b t h y l a f c =
     blank-so [] = refl
     blank-so (r ∷ rs) = refl
 
-module _ {s rows table spans w spans′ : List ℕ} {names first n e : ℕ} (h : length s ≤ 65536) (y : Seek s 0 (length s) 10 e) where
-  pub old-none : e ≡ length s → Read s names rows table first n spans w spans′ (Refused 1)
+module _ {s table spans w spans′ : List ℕ} {names first n e : ℕ} (h : length s ≤ mostText) (y : Seek s 0 (length s) 10 e) where
+  pub old-none : e ≡ length s → Read s names table first n spans w spans′ (Refused 1)
   old-none d = record { is = λ rs g l m. sym (next-last 1 (firstLine names rs) s 0 (length s) e y d) ∙ old-so names rs s h }
 
   module _ (d : (e ≡ length s → ⊥)) {b : Bool} (a : IsAnswers s 0 e n b) where
-    pub old-other : not b ≡ true → Read s names rows table first n spans w spans′ (Refused 1)
+    pub old-other : not b ≡ true → Read s names table first n spans w spans′ (Refused 1)
     old-other f = record { is = λ rs g l m. first-so s names n e rs b false h y (omega (arith, y .high)) a (not-true b f) (g .count) }
 
-    pub old-roots : {r : Old} → not b ≡ false → Roots s (e + 1) names rows table first n spans spans′ r → Read s names rows table first n spans w spans′ r
+    pub old-roots : {r : Old} → not b ≡ false → Roots s (e + 1) names table first n spans spans′ r → Read s names table first n spans w spans′ r
     old-roots f q = record { is = λ rs g l m. q .is rs g l ∙ first-so s names n e rs b true h y (omega (arith, y .high)) a (not-false b f) (g .count) }

@@ -6,6 +6,8 @@ use mathlib.Core.List.{List, [], _∷_}
 use lib.ListN.{length, getD}
 use lib.Dec.{leb}
 use Rattle.cells.specs.Part.{cell, part, run}
+use Rattle.layout.specs.Layout.{lineLength}
+use Rattle.rules.specs.Ceilings.{mostText, mostMembers}
 use Rattle.rules.specs.Plain.{some, both}
 use Rattle.rules.specs.Text.{lineFeed, pieces, rowOf}
 use Rattle.rules.specs.Table.{Result, accepted, refused, allBelow, attrAt}
@@ -15,8 +17,8 @@ use Rattle.text.specs.declared.Num.{Num}
 use Rattle.text.specs.Reads.{span, numOf}
 use Rattle.listing.specs.declared.old.Old.{Old}
 use Rattle.listing.specs.declared.old.Old.the-variants.{InForm, Refused}
-use Rattle.listing.specs.declared.old.Next.{Next}
-use Rattle.listing.specs.declared.old.Next.the-variants.{At, Fault}
+use Rattle.listing.specs.declared.old.Reached.{Reached}
+use Rattle.listing.specs.declared.old.Reached.the-variants.{At, Fault}
 
 -- a row that ends at to
 abbrev pub row : List ℕ → ℕ → List ℕ
@@ -26,7 +28,7 @@ pub record SetFits (w : List ℕ) (to names i : ℕ) (r : Bool) : Type 0 where
   pub is : r ≡ nodeFits names i (AttrSet (attrAt (row w to) 1))
 
 pub record MembersFit (w : List ℕ) (to i : ℕ) (r : Bool) : Type 0 where
-  pub is : r ≡ both (allBelow i (part (row w to) 2 (cell (row w to) 1))) (λ _. leb (cell (row w to) 1) 128)
+  pub is : r ≡ both (allBelow i (part (row w to) 2 (cell (row w to) 1))) (λ _. leb (cell (row w to) 1) mostMembers)
 
 pub record NodeFits (w : List ℕ) (to names i : ℕ) (r : Bool) : Type 0 where
   pub is : r ≡ nodeFits names i (nodeOf (row w to))
@@ -37,23 +39,23 @@ pub record NodeLine (s : List ℕ) (from to names i : ℕ) (r : Bool) : Type 0 w
 -- line k begins at from, and w has room for a line's words
 pub record Ready (s : List ℕ) (from k : ℕ) (w : List ℕ) : Type 0 where
   pub within : from ≤ length s
-  pub short : length s ≤ 65536
+  pub short : length s ≤ mostText
   pub early : k ≤ from + 1
-  pub room : 65536 ≤ length w
+  pub room : lineLength ≤ length w
 
 -- read up to p, where line k begins; the lines of the root in hand begin at a
 abbrev pub takingAt : List ℕ → ℕ → ℕ → ℕ → Taking
 takingAt s a p k = record { text = span s a p; line = k; rest = pieces lineFeed (span s p (length s)) }
 
-abbrev pub nextOf : List ℕ → ℕ → Next → Result Taking
+abbrev pub nextOf : List ℕ → ℕ → Reached → Result Taking
 nextOf s a (At p k) = accepted (takingAt s a p k)
 nextOf s a (Fault k) = refused 11 k
 
-abbrev pub Goes : List ℕ → ℕ → Next → Type 0
+abbrev pub Goes : List ℕ → ℕ → Reached → Type 0
 Goes s from (At p k) = (from ≤ p) × (p ≤ length s) × (k ≤ p + 1)
 Goes s from (Fault k) = Unit {0}
 
-pub record Nodes (s : List ℕ) (from k names n : ℕ) (r : Next) : Type 0 where
+pub record Nodes (s : List ℕ) (from k names n : ℕ) (r : Reached) : Type 0 where
   pub is : (a : ℕ) → a ≤ from → nextOf s a r ≡ takeNodes names 0 n (takingAt s a from k)
   pub goes : Goes s from r
 
@@ -69,18 +71,18 @@ pub record Count (w : List ℕ) (to id sign : ℕ) (r : Num) : Type 0 where
 pub record After (s : List ℕ) (from to id sign : ℕ) (r : Num) : Type 0 where
   pub is : numOf r ≡ nodesAfter (id ∷ sign ∷ []) (rowOf headKinds (span s from to))
 
-pub record Root (s : List ℕ) (from k names id sign : ℕ) (r : Next) : Type 0 where
+pub record Root (s : List ℕ) (from k names id sign : ℕ) (r : Reached) : Type 0 where
   pub is : (root : List ℕ) → id ≡ cell root 0 → sign ≡ cell root 1 → nextOf s from r ≡ takeRoot names root (takingAt s from from k)
   pub goes : Goes s from r
 
--- the roots rs are those of the rows first and on
-pub record Given (rs : List (List ℕ)) (rows table : List ℕ) (first n : ℕ) : Type 0 where
+-- the roots rs are those of the rows that begin where the cells from first on tell
+pub record RootsAt (rs : List (List ℕ)) (table : List ℕ) (first n : ℕ) : Type 0 where
   pub count : length rs ≡ n
-  pub ids : (i : ℕ) → i < n → cell table (cell rows (first + i) + 1) ≡ cell (getD rs i []) 0
-  pub signs : (i : ℕ) → i < n → cell table (cell rows (first + i) + 2) ≡ cell (getD rs i []) 1
+  pub ids : (i : ℕ) → i < n → cell table (cell table (first + i) + 1) ≡ cell (getD rs i []) 0
+  pub signs : (i : ℕ) → i < n → cell table (cell table (first + i) + 2) ≡ cell (getD rs i []) 1
 
-pub record RootWord (rows table : List ℕ) (first i k r : ℕ) : Type 0 where
-  pub is : r ≡ cell table (cell rows (first + i) + k)
+pub record RootWord (table : List ℕ) (first i k r : ℕ) : Type 0 where
+  pub is : r ≡ cell table (cell table (first + i) + k)
 
 -- the text of root i
 abbrev pub rootSpan : List ℕ → List ℕ → ℕ → List ℕ
@@ -90,12 +92,12 @@ abbrev pub oldOf : Old → List ℕ → List ℕ → ℕ → Result (List (List 
 oldOf InForm s spans n = accepted (run (rootSpan s spans) 0 n)
 oldOf (Refused k) s spans n = refused 11 k
 
-pub record Roots (s : List ℕ) (from names : ℕ) (rows table : List ℕ) (first n : ℕ) (spans spans′ : List ℕ) (r : Old) : Type 0 where
-  pub is : (rs : List (List ℕ)) → Given rs rows table first n → n < length spans → oldOf r s spans′ n ≡ takeRoots names rs (takingAt s 0 from 2)
+pub record Roots (s : List ℕ) (from names : ℕ) (table : List ℕ) (first n : ℕ) (spans spans′ : List ℕ) (r : Old) : Type 0 where
+  pub is : (rs : List (List ℕ)) → RootsAt rs table first n → n < length spans → oldOf r s spans′ n ≡ takeRoots names rs (takingAt s 0 from 2)
 
 pub record IsAnswers (s : List ℕ) (from to n : ℕ) (r : Bool) : Type 0 where
   pub is : r ≡ isAnswers n (rowOf headKinds (span s from to))
 
 -- an old listing read: where the spans and the words are long enough, the answer with the spans is what the rules say
-pub record Read (s : List ℕ) (names : ℕ) (rows table : List ℕ) (first n : ℕ) (spans w spans′ : List ℕ) (r : Old) : Type 0 where
-  pub is : (rs : List (List ℕ)) → Given rs rows table first n → n < length spans → 65536 ≤ length w → oldOf r s spans′ n ≡ oldListing names rs s
+pub record Read (s : List ℕ) (names : ℕ) (table : List ℕ) (first n : ℕ) (spans w spans′ : List ℕ) (r : Old) : Type 0 where
+  pub is : (rs : List (List ℕ)) → RootsAt rs table first n → n < length spans → lineLength ≤ length w → oldOf r s spans′ n ≡ oldListing names rs s

@@ -1,15 +1,15 @@
 // The lines of a listing.
+use cells::add;
+use cells::get;
+use cells::place;
 use crate::walk;
 use crate::write::byte;
 use crate::write::decimal;
 use crate::write::number_field;
 use crate::write::sign_field;
 use crate::write::word;
-use cells::add;
-use cells::get;
-use cells::place;
-use lang_ty::arena;
 use lang_ty::arena::OutputTy;
+use lang_ty::arena;
 use lang_ty::attrset;
 use lang_ty::disjoint::set_place;
 
@@ -145,10 +145,10 @@ fn node_field(work: &[u32], out: &mut [u8], at: u32, y: u32) -> u32 {
 }
 
 // What stands behind the keyword of node x.
-fn contents(starts: &[u32], words: &[u32], work: &[u32], out: &mut [u8], at: u32, x: u32) -> u32 {
-    let k = arena::kind(starts, words, x);
-    let a = arena::word(starts, words, x, 1);
-    let b = arena::word(starts, words, x, 2);
+fn contents(arena: &[u32], work: &[u32], out: &mut [u8], at: u32, x: u32) -> u32 {
+    let k = arena::kind(arena, x);
+    let a = arena::word(arena, x, 1);
+    let b = arena::word(arena, x, 2);
     if k == OutputTy::TY_VAR || k == OutputTy::PRIMITIVE {
         return number_field(out, at, a);
     }
@@ -164,10 +164,10 @@ fn contents(starts: &[u32], words: &[u32], work: &[u32], out: &mut [u8], at: u32
         return node_field(work, out, p, b);
     }
     if k == OutputTy::ATTR_SET {
-        return set_contents(words, work, out, at, set_place(starts, x));
+        return set_contents(arena, work, out, at, set_place(arena, x));
     }
     if k == OutputTy::UNION || k == OutputTy::INTERSECTION {
-        return node_list(words, work, out, at, add(cells::at(starts, x), 2), a);
+        return node_list(arena, work, out, at, add(cells::at(arena, x), 2), a);
     }
     at
 }
@@ -212,20 +212,20 @@ fn keyword(out: &mut [u8], at: u32, kind: u32) -> u32 {
 }
 
 // The line of node k of the listing: number, kind, contents.
-fn node_line(starts: &[u32], words: &[u32], work: &[u32], out: &mut [u8], at: u32, k: u32) -> u32 {
+fn node_line(arena: &[u32], work: &[u32], out: &mut [u8], at: u32, k: u32) -> u32 {
     let x = walk::node(work, k);
     let p = decimal(out, at, k);
     let p = byte(out, p, 9);
-    let p = keyword(out, p, arena::kind(starts, words, x));
-    let p = contents(starts, words, work, out, p, x);
+    let p = keyword(out, p, arena::kind(arena, x));
+    let p = contents(arena, work, out, p, x);
     byte(out, p, 10)
 }
 
-fn node_lines(starts: &[u32], words: &[u32], work: &[u32], out: &mut [u8], at: u32, n: u32) -> u32 {
+fn node_lines(arena: &[u32], work: &[u32], out: &mut [u8], at: u32, n: u32) -> u32 {
     let mut p = at;
     let mut k = 0;
     while k < n {
-        p = node_line(starts, words, work, out, p, k);
+        p = node_line(arena, work, out, p, k);
         k += 1;
     }
     p
@@ -233,8 +233,7 @@ fn node_lines(starts: &[u32], words: &[u32], work: &[u32], out: &mut [u8], at: u
 
 // The lines of a root that is not refused, with its nodes, children first. The first 12,288 cells of work may be used.
 pub fn root_lines(
-    starts: &[u32],
-    words: &[u32],
+    arena: &[u32],
     work: &mut [u32],
     out: &mut [u8],
     at: u32,
@@ -242,7 +241,7 @@ pub fn root_lines(
     sign: u32,
     s: Head,
 ) -> u32 {
-    let n = walk::walk(starts, words, work, s.node);
+    let n = walk::walk(arena, work, s.node);
     let p = root_line(out, at, id, sign, s, n);
-    node_lines(starts, words, work, out, p, n)
+    node_lines(arena, work, out, p, n)
 }

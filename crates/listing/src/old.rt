@@ -1,6 +1,11 @@
 // An old listing: whether it is in form for the roots of a table, and where each root's lines stand.
 use cells::get;
 use cells::place;
+use lang_ty::arena::Pass;
+use layout::ArenaSlice;
+use table::Table;
+use table::ranges;
+use table::rows;
 use text::Got;
 use text::Num;
 ghost use Prim.Native.Nat.{_<_};
@@ -17,7 +22,7 @@ pub enum Old {
 }
 
 // Where the next line begins, and its number; or the line at fault.
-pub enum Next {
+pub enum Reached {
     At(usize, u32),
     Fault(u32),
 }
@@ -107,26 +112,26 @@ fn head_row(s: &[u8], from: usize, to: usize, words: &mut [u32]) -> Got
 fn set_fits(words: &[u32], to: usize, names: u32, i: u32) -> bool
     ensures { λ r. ⌜ SetFits (now (words .entry)) to names i r ⌝ }
 {
-    let p = table::places_of(words, 0, to);
-    if !table::set_known(words, 0, to, p, i as usize) {
+    let p = rows::places_of(words, 0, to);
+    if !ranges::set_known(words, 0, to, p, i as usize) {
         return false;
     }
-    if !table::ascend(words, 0, to, 2, 2, p.fields) {
+    if !rows::ascend(words, 0, to, 2, 2, p.fields) {
         return false;
     }
-    if !table::ascend(words, 0, to, p.opens + 2, 1, p.optional) {
+    if !rows::ascend(words, 0, to, p.opens + 2, 1, p.optional) {
         return false;
     }
-    table::keys_known(words, 0, to, p, names as usize)
+    ranges::keys_known(words, 0, to, p, names as usize)
 }
 
-// Whether the members in the row that ends at to come before i and are no more than 128.
+// Whether the members in the row that ends at to come before i and are no more than a list may have.
 fn members_fit(words: &[u32], to: usize, i: u32) -> bool
     ensures { λ r. ⌜ MembersFit (now (words .entry)) to i r ⌝ }
 {
-    let n = table::at(words, 0, to, 1);
-    if table::below(words, 0, to, 2, 1, n as usize, i as usize) {
-        return n <= 128;
+    let n = rows::at(words, 0, to, 1);
+    if rows::below(words, 0, to, 2, 1, n as usize, i as usize) {
+        return n <= Pass::MEMBERS;
     }
     false
 }
@@ -135,7 +140,7 @@ fn members_fit(words: &[u32], to: usize, i: u32) -> bool
 fn node_fits(words: &[u32], to: usize, names: u32, i: u32) -> bool
     ensures { λ r. ⌜ NodeFits (now (words .entry)) to names i r ⌝ }
 {
-    let kind = table::at(words, 0, to, 0);
+    let kind = rows::at(words, 0, to, 0);
     if kind == 4 {
         return set_fits(words, to, names, i);
     }
@@ -146,16 +151,16 @@ fn node_fits(words: &[u32], to: usize, names: u32, i: u32) -> bool
         return members_fit(words, to, i);
     }
     if kind == 3 {
-        return table::below(words, 0, to, 1, 1, 2, i as usize);
+        return rows::below(words, 0, to, 1, 1, 2, i as usize);
     }
     if kind == 7 {
-        return table::below(words, 0, to, 2, 1, 1, i as usize);
+        return rows::below(words, 0, to, 2, 1, 1, i as usize);
     }
     if kind == 2 {
-        return table::below(words, 0, to, 1, 1, 1, i as usize);
+        return rows::below(words, 0, to, 1, 1, 1, i as usize);
     }
     if kind == 8 {
-        return table::below(words, 0, to, 1, 1, 1, i as usize);
+        return rows::below(words, 0, to, 1, 1, 1, i as usize);
     }
     true
 }
@@ -182,7 +187,7 @@ fn node_line(s: &[u8], from: usize, to: usize, words: &mut [u32], names: u32, i:
 }
 
 // The lines of n nodes, from line k on.
-fn nodes(s: &[u8], from: usize, k: u32, words: &mut [u32], names: u32, n: u32) -> Next
+fn nodes(s: &[u8], from: usize, k: u32, words: &mut [u32], names: u32, n: u32) -> Reached
     requires { ⌜ Ready (now s) from k (now words) ⌝ }
     ensures { λ r. ⌜ Nodes (now (s .entry)) from k names n r ⌝ }
 {
@@ -193,16 +198,16 @@ fn nodes(s: &[u8], from: usize, k: u32, words: &mut [u32], names: u32, n: u32) -
     while i < n {
         let e = text::seek(s, at, m, 10);
         if e == m {
-            return Next::Fault(line);
+            return Reached::Fault(line);
         }
         if !node_line(s, at, e, words, names, i) {
-            return Next::Fault(line);
+            return Reached::Fault(line);
         }
         at = e + 1;
         line += 1;
         i += 1;
     }
-    Next::At(at, line)
+    Reached::At(at, line)
 }
 
 fn within(a: u32, b: u32, x: u32) -> bool
@@ -218,8 +223,8 @@ fn within(a: u32, b: u32, x: u32) -> bool
 fn for_root(words: &[u32], to: usize, id: u32, sign: u32) -> bool
     ensures { λ r. ⌜ ForRoot (now (words .entry)) to id sign r ⌝ }
 {
-    if table::at(words, 0, to, 1) == id {
-        return table::at(words, 0, to, 2) == sign;
+    if rows::at(words, 0, to, 1) == id {
+        return rows::at(words, 0, to, 2) == sign;
     }
     false
 }
@@ -228,9 +233,9 @@ fn for_root(words: &[u32], to: usize, id: u32, sign: u32) -> bool
 fn count(words: &[u32], to: usize, id: u32, sign: u32) -> Num
     ensures { λ r. ⌜ Count (now (words .entry)) to id sign r ⌝ }
 {
-    let kind = table::at(words, 0, to, 0);
-    let a = table::at(words, 0, to, 3);
-    let n = table::at(words, 0, to, 7);
+    let kind = rows::at(words, 0, to, 0);
+    let a = rows::at(words, 0, to, 3);
+    let n = rows::at(words, 0, to, 7);
     if !for_root(words, to, id, sign) {
         return Num::No;
     }
@@ -238,7 +243,7 @@ fn count(words: &[u32], to: usize, id: u32, sign: u32) -> Num
         if !within(1, 2, a) {
             return Num::No;
         }
-        if !within(1, 4096, n) {
+        if !within(1, Pass::NODES, n) {
             return Num::No;
         }
         return Num::Is(n);
@@ -264,26 +269,26 @@ fn nodes_after(s: &[u8], from: usize, to: usize, words: &mut [u32], id: u32, sig
 }
 
 // The lines of a root, from line k on.
-fn root(s: &[u8], from: usize, k: u32, words: &mut [u32], names: u32, id: u32, sign: u32) -> Next
+fn root(s: &[u8], from: usize, k: u32, words: &mut [u32], names: u32, id: u32, sign: u32) -> Reached
     requires { ⌜ Ready (now s) from k (now words) ⌝ }
     ensures { λ r. ⌜ Root (now (s .entry)) from k names id sign r ⌝ }
 {
     let m = s.len();
     let e = text::seek(s, from, m, 10);
     if e == m {
-        return Next::Fault(k);
+        return Reached::Fault(k);
     }
     let Num::Is(n) = nodes_after(s, from, e, words, id, sign) else {
-        return Next::Fault(k);
+        return Reached::Fault(k);
     };
     nodes(s, e + 1, k + 1, words, names, n)
 }
 
 // Word k of root i's row.
-fn root_word(rows: &[u32], table: &[u32], first: u32, i: u32, k: u32) -> u32
-    ensures { λ r. ⌜ RootWord (now (rows .entry)) (now (table .entry)) first i k r ⌝ }
+fn root_word(table: &[u32], first: u32, i: u32, k: u32) -> u32
+    ensures { λ r. ⌜ RootWord (now (table .entry)) first i k r ⌝ }
 {
-    let p = get(rows, place(first, i));
+    let p = get(table, place(first, i));
     get(table, place(p, k))
 }
 
@@ -292,7 +297,6 @@ fn roots_from(
     s: &[u8],
     from: usize,
     names: u32,
-    rows: &[u32],
     table: &[u32],
     first: u32,
     roots: u32,
@@ -300,20 +304,20 @@ fn roots_from(
     words: &mut [u32],
 ) -> Old
     requires { ⌜ Ready (now s) from 2 (now words) ⌝ }
-    ensures { λ r. ⌜ Roots (now (s .entry)) from names (now (rows .entry)) (now (table .entry)) first roots (now (spans .entry)) (now (spans .exit)) r ⌝ }
+    ensures { λ r. ⌜ Roots (now (s .entry)) from names (now (table .entry)) first roots (now (spans .entry)) (now (spans .exit)) r ⌝ }
 {
     let mut at = from;
     let mut line = 2;
     let mut i = 0;
     while i < roots {
         cells::set(spans, i, at as u32);
-        let id = root_word(rows, table, first, i, 1);
-        let sign = root_word(rows, table, first, i, 2);
+        let id = root_word(table, first, i, 1);
+        let sign = root_word(table, first, i, 2);
         match root(s, at, line, words, names, id, sign) {
-            Next::Fault(k) => {
+            Reached::Fault(k) => {
                 return Old::Refused(k);
             }
-            Next::At(q, k) => {
+            Reached::At(q, k) => {
                 at = q;
                 line = k;
                 i += 1;
@@ -335,31 +339,30 @@ fn is_answers(s: &[u8], from: usize, to: usize, words: &mut [u32], roots: u32) -
     let Got::To(t) = head_row(s, from, to, words) else {
         return false;
     };
-    if table::at(words, 0, t, 0) == 0 {
-        return table::at(words, 0, t, 1) == roots;
+    if rows::at(words, 0, t, 0) == 0 {
+        return rows::at(words, 0, t, 1) == roots;
     }
     false
 }
 
-// Reads an old listing for the roots whose rows in table begin at rows[first] and on: a kind, the id, the sign. In form, root i's lines are
-// those from spans[i] to spans[i + 1]. The words are 65,536 at least, and the spans one more than the roots.
+// Reads an old listing for the roots whose rows begin where table tells from first on: a kind, the id, the sign. In form, root i's lines are
+// those from spans[i] to spans[i + 1]. The words are ArenaSlice::LINE at least, and the spans one more than the roots.
 pub fn read_old(
     text: &[u8],
     names: u32,
-    rows: &[u32],
     table: &[u32],
     first: u32,
     roots: u32,
     spans: &mut [u32],
     words: &mut [u32],
 ) -> Old
-    ensures { λ r. ⌜ Read (now (text .entry)) names (now (rows .entry)) (now (table .entry)) first roots (now (spans .entry)) (now (words .entry)) (now (spans .exit)) r ⌝ }
+    ensures { λ r. ⌜ Read (now (text .entry)) names (now (table .entry)) first roots (now (spans .entry)) (now (words .entry)) (now (spans .exit)) r ⌝ }
 {
     let n = text.len();
-    if 65536 < n {
+    if Table::TEXT < n {
         return Old::Refused(0);
     }
-    if words.len() < 65536 {
+    if words.len() < ArenaSlice::LINE {
         return Old::Refused(0);
     }
     let e = text::seek(text, 0, n, 10);
@@ -369,5 +372,5 @@ pub fn read_old(
     if !is_answers(text, 0, e, words, roots) {
         return Old::Refused(1);
     }
-    roots_from(text, e + 1, names, rows, table, first, roots, spans, words)
+    roots_from(text, e + 1, names, table, first, roots, spans, words)
 }

@@ -1,5 +1,4 @@
-// The order of a root's nodes in its listing. In work the cell of a node is its number and 1, or 0 before it has one; from ORDER on stand
-// the nodes by their numbers.
+// The order of a root's nodes in its listing. In work the cell of a node is its number and 1, or 0 before it has one.
 use cells::add;
 use cells::at;
 use cells::get;
@@ -7,39 +6,38 @@ use cells::place;
 use cells::put;
 use cells::set;
 use lang_ty::arc_ty;
-
-const ORDER: u32 = 8192;
+use layout::WalkSlice;
 
 // The nodes below x and x itself, numbered from k on, children first; the next number. A child has a smaller number than its node.
-fn visit(starts: &[u32], words: &[u32], work: &mut [u32], x: u32, k: u32) -> u32 {
+fn visit(arena: &[u32], work: &mut [u32], x: u32, k: u32) -> u32 {
     if at(work, x) != 0 {
         return k;
     }
-    let n = arc_ty::children(starts, words, x);
+    let n = arc_ty::children(arena, x);
     let mut next = k;
     let mut i = 0;
     while i < n {
-        let c = arc_ty::child(starts, words, x, i);
+        let c = arc_ty::child(arena, x, i);
         if c < x {
-            next = visit(starts, words, work, c, next);
+            next = visit(arena, work, c, next);
         }
         i += 1;
     }
-    put(work, place(ORDER, next), x);
+    put(work, place(WalkSlice::ORDER, next), x);
     next = add(next, 1);
     set(work, x, next);
     next
 }
 
 // How many nodes are reached from x.
-pub fn walk(starts: &[u32], words: &[u32], work: &mut [u32], x: u32) -> u32 {
+pub fn walk(arena: &[u32], work: &mut [u32], x: u32) -> u32 {
     cells::clear(work, 0, add(x, 1));
-    visit(starts, words, work, x, 0)
+    visit(arena, work, x, 0)
 }
 
 // Node k of the listing.
 pub fn node(work: &[u32], k: u32) -> u32 {
-    get(work, place(ORDER, k))
+    get(work, place(WalkSlice::ORDER, k))
 }
 
 // The number of node x in the listing.

@@ -1,14 +1,3 @@
-pub mod Gathering
-pub mod Flattening
-pub mod Cancelling
-pub mod Absorbing
-pub mod Negating
-pub mod Factoring
-pub mod Intersecting
-pub mod Contradicting
-pub mod Simplifying
-pub mod Marking
-pub mod Melding
-pub mod Merging
-pub mod Uniting
-pub mod Composing
+pub mod Gathered
+pub mod Flattened
+pub mod Negated

@@ -1,5 +1,3 @@
 pub mod Lists
-pub mod Unions
-pub mod Intersections
-pub mod Factors
-pub mod Merges
+pub mod Flattens
+pub mod Negations

@@ -7,6 +7,7 @@ use lib.ListN.{length}
 use lib.Dec.{eqb}
 use Rattle.cells.specs.Part.{cell, part, Holds, Under}
 use Rattle.cells.specs.Sum.{Sum}
+use Rattle.rules.specs.Ceilings.{mostMembers}
 use Rattle.rules.specs.Plain.{any, filter, contains}
 use Rattle.rules.specs.Types.{Node, State, Out, ok, no, Run, bind, give, is}
 use Rattle.rules.specs.Members.{sole}
@@ -19,8 +20,8 @@ use Rattle.members.specs.declared.lists.Members.{Members}
 use Rattle.members.specs.declared.lists.Flow.{Flow}
 use Rattle.members.specs.declared.lists.Flow.the-variants.{On, Refused}
 use Rattle.members.specs.declared.lists.Listed.{Listed}
-use Rattle.members.specs.declared.lists.Part.{Part}
-use Rattle.members.specs.declared.lists.Part.the-variants.{Nothing, One, Refused as RefusedP}
+use Rattle.members.specs.declared.lists.AtMostOne.{AtMostOne}
+use Rattle.members.specs.declared.lists.AtMostOne.the-variants.{Nothing, One, Refused as RefusedP}
 use Rattle.members.specs.declared.lists.Grown.{Grown}
 use Rattle.members.specs.declared.lists.Grown.the-variants.{On as OnG, Refused as RefusedG}
 
@@ -28,12 +29,12 @@ use Rattle.members.specs.declared.lists.Grown.the-variants.{On as OnG, R
 pub record Few (m : Members) (xs : List ℕ) : Type 0 where
   pub count : m .count ≡ length xs
   pub holds : Holds (m .at) 0 xs
-  pub few : length xs ≤ 128
+  pub few : length xs ≤ mostMembers
 
 -- the members m are xs; a count above 128 says that there are more than fit
 pub record Lists (m : Members) (xs : List ℕ) : Type 0 where
-  pub fit : length xs ≤ 128 → Few m xs
-  pub many : 128 < length xs → 128 < m .count
+  pub fit : length xs ≤ mostMembers → Few m xs
+  pub many : mostMembers < length xs → mostMembers < m .count
 
 -- a list that a rule may take: no more than 128 members, each one of k nodes
 pub record Taken (m : Members) (xs : List ℕ) (k : ℕ) : Type 0 where
@@ -41,36 +42,36 @@ pub record Taken (m : Members) (xs : List ℕ) (k : ℕ) : Type 0 where
   pub below : Under k xs
 
 -- r is what f makes of the members of m
-pub record Makes (f : List Node → List ℕ → List ℕ) (s w : List ℕ) (m r : Members) : Type 0 where
-  pub is : {q : Pass} {ns : List Node} {xs : List ℕ} → Arena s w q ns → Taken m xs (length ns) → Taken r (f ns xs) (length ns)
+pub record Makes (f : List Node → List ℕ → List ℕ) (w : List ℕ) (m r : Members) : Type 0 where
+  pub is : {q : Pass} {ns : List Node} {xs : List ℕ} → Arena w q ns → Taken m xs (length ns) → Taken r (f ns xs) (length ns)
 
 -- r is the answer of the test f on the members of m
-pub record Tests (f : List Node → List ℕ → Bool) (s w : List ℕ) (m : Members) (r : Bool) : Type 0 where
-  pub is : {q : Pass} {ns : List Node} {xs : List ℕ} → Arena s w q ns → Taken m xs (length ns) → r ≡ f ns xs
+pub record Tests (f : List Node → List ℕ → Bool) (w : List ℕ) (m : Members) (r : Bool) : Type 0 where
+  pub is : {q : Pass} {ns : List Node} {xs : List ℕ} → Arena w q ns → Taken m xs (length ns) → r ≡ f ns xs
 
--- the rules give the list m too, and the slices are as after that
-pub record Gives (o : Out (List ℕ)) (s w : List ℕ) (m : Members) (q : Pass) : Type 0 where
+-- the rules give the list m too, and the arena is as after that
+pub record Gives (o : Out (List ℕ)) (w : List ℕ) (m : Members) (q : Pass) : Type 0 where
   pub after : State
   pub list : List ℕ
   pub is : o ≡ ok list after
-  pub stands : Stands after s w q
+  pub stands : Stands after w q
   pub taken : Taken m list (length (after .nodes))
 
 -- the code's answer is that of the rules
-abbrev pub AnswersFlow : Out (List ℕ) → List ℕ → List ℕ → Members → Flow → Type 0
-AnswersFlow o s w m (On q) = Gives o s w m q
-AnswersFlow o s w m (Refused k) = o ≡ no k
+abbrev pub AnswersFlow : Out (List ℕ) → List ℕ → Members → Flow → Type 0
+AnswersFlow o w m (On q) = Gives o w m q
+AnswersFlow o w m (Refused k) = o ≡ no k
 
-abbrev pub Answers : Out (List ℕ) → List ℕ → List ℕ → Listed → Type 0
-Answers o s w r = AnswersFlow o s w (r .members) (r .flow)
+abbrev pub Answers : Out (List ℕ) → List ℕ → Listed → Type 0
+Answers o w r = AnswersFlow o w (r .members) (r .flow)
 
 -- r is what the rule f gives for the members of m
-pub record Runs (f : List ℕ → Run (List ℕ)) (s w : List ℕ) (q : Pass) (m : Members) (s′ w′ : List ℕ) (r : Listed) : Type 0 where
-  pub is : {st : State} {xs : List ℕ} → Stands st s w q → Taken m xs (q .nodes) → Answers (f xs st) s′ w′ r
+pub record Runs (f : List ℕ → Run (List ℕ)) (w : List ℕ) (q : Pass) (m : Members) (w′ : List ℕ) (r : Listed) : Type 0 where
+  pub is : {st : State} {xs : List ℕ} → Stands st w q → Taken m xs (q .nodes) → Answers (f xs st) w′ r
 
 -- r is the answer of the test f on node x
-pub record Asks (f : List Node → ℕ → Bool) (s w : List ℕ) (x : ℕ) (r : Bool) : Type 0 where
-  pub is : {q : Pass} {ns : List Node} → Arena s w q ns → x < length ns → r ≡ f ns x
+pub record Asks (f : List Node → ℕ → Bool) (w : List ℕ) (x : ℕ) (r : Bool) : Type 0 where
+  pub is : {q : Pass} {ns : List Node} → Arena w q ns → x < length ns → r ≡ f ns x
 
 -- a refusal, by its number
 pub record Refuses (k : ℕ) (r : Listed) : Type 0 where
@@ -84,7 +85,7 @@ pub record Contains (s : List ℕ) (n x : ℕ) (r : Bool) : Type 0 where
 pub record Gathered (out : List ℕ) (k : ℕ) (xs : List ℕ) : Type 0 where
   pub count : k ≡ length xs
   pub holds : Holds out 0 xs
-  pub room : length out ≡ 128
+  pub room : length out ≡ mostMembers
 
 -- x where it is to be kept
 abbrev pub only : Bool → ℕ → List ℕ
@@ -93,7 +94,7 @@ only false x = []
 
 -- what was gathered, and x behind it where it is to be kept
 pub record KeepsIf (out : List ℕ) (k x : ℕ) (b : Bool) (out′ : List ℕ) (r : ℕ) : Type 0 where
-  pub is : {xs : List ℕ} → Gathered out k xs → length xs < 128 → Gathered out′ r (xs ++ only b x)
+  pub is : {xs : List ℕ} → Gathered out k xs → length xs < mostMembers → Gathered out′ r (xs ++ only b x)
 
 abbrev pub anyOfKind : ℕ → List Node → List ℕ → Bool
 anyOfKind k ns xs = any (is ns k) xs
@@ -112,65 +113,73 @@ pub record Wraps (kind : ℕ) (wrap : List ℕ → Node) : Type 0 where
   pub is : {k : ℕ} (xs : List ℕ) → Under k xs → ListNode (wrap xs) kind xs k
 
 -- the rules give this list too
-pub record PartIs (o : Out (List ℕ)) (s w : List ℕ) (list : List ℕ) (q : Pass) : Type 0 where
+pub record PartIs (o : Out (List ℕ)) (w : List ℕ) (list : List ℕ) (q : Pass) : Type 0 where
   pub after : State
   pub is : o ≡ ok list after
-  pub stands : Stands after s w q
+  pub stands : Stands after w q
   pub below : Under (length (after .nodes)) list
 
-abbrev pub AnswersPart : Out (List ℕ) → List ℕ → List ℕ → Part → Type 0
-AnswersPart o s w (Nothing q) = PartIs o s w [] q
-AnswersPart o s w (One x q) = PartIs o s w (x ∷ []) q
-AnswersPart o s w (RefusedP k) = o ≡ no k
+abbrev pub AnswersPart : Out (List ℕ) → List ℕ → AtMostOne → Type 0
+AnswersPart o w (Nothing q) = PartIs o w [] q
+AnswersPart o w (One x q) = PartIs o w (x ∷ []) q
+AnswersPart o w (RefusedP k) = o ≡ no k
 
 -- nothing of nothing, a sole member itself, more as one stored node of that kind
-pub record Soles (kind : ℕ) (s w : List ℕ) (q : Pass) (m : Members) (s′ w′ : List ℕ) (r : Part) : Type 0 where
-  pub is : {st : State} {xs : List ℕ} {wrap : List ℕ → Node} → Wraps kind wrap → Stands st s w q → Taken m xs (q .nodes) → AnswersPart (sole wrap xs st) s′ w′ r
+pub record Soles (kind : ℕ) (w : List ℕ) (q : Pass) (m : Members) (w′ : List ℕ) (r : AtMostOne) : Type 0 where
+  pub is : {st : State} {xs : List ℕ} {wrap : List ℕ → Node} → Wraps kind wrap → Stands st w q → Taken m xs (q .nodes) → AnswersPart (sole wrap xs st) w′ r
 
 -- the list xs has grown by what the rules give, by one or none
-pub record Adds (o : Out (List ℕ)) (s w xs out : List ℕ) (k : ℕ) (q : Pass) : Type 0 where
+pub record Adds (o : Out (List ℕ)) (w xs out : List ℕ) (k : ℕ) (q : Pass) : Type 0 where
   pub after : State
   pub list : List ℕ
   pub is : o ≡ ok list after
-  pub stands : Stands after s w q
+  pub stands : Stands after w q
   pub below : Under (length (after .nodes)) list
   pub most : length list ≤ 1
   pub gathered : Gathered out k (xs ++ list)
 
-abbrev pub AnswersGrown : Out (List ℕ) → List ℕ → List ℕ → List ℕ → List ℕ → Grown → Type 0
-AnswersGrown o s w xs out (OnG k q) = Adds o s w xs out k q
-AnswersGrown o s w xs out (RefusedG k) = o ≡ no k
+abbrev pub AnswersGrown : Out (List ℕ) → List ℕ → List ℕ → List ℕ → Grown → Type 0
+AnswersGrown o w xs out (OnG k q) = Adds o w xs out k q
+AnswersGrown o w xs out (RefusedG k) = o ≡ no k
 
-pub record Grows (out : List ℕ) (k : ℕ) (p : Part) (out′ : List ℕ) (r : Grown) : Type 0 where
-  pub is : (o : Out (List ℕ)) (s w : List ℕ) {xs : List ℕ} → AnswersPart o s w p → Gathered out k xs → length xs < 128 → AnswersGrown o s w xs out′ r
+pub record Grows (out : List ℕ) (k : ℕ) (p : AtMostOne) (out′ : List ℕ) (r : Grown) : Type 0 where
+  pub is : (o : Out (List ℕ)) (w : List ℕ) {xs : List ℕ} → AnswersPart o w p → Gathered out k xs → length xs < mostMembers → AnswersGrown o w xs out′ r
 
 -- the members behind what was gathered
 pub record CopiedInto (out : List ℕ) (k : ℕ) (m : Members) (out′ : List ℕ) (r : ℕ) : Type 0 where
   pub sum : Sum k (m .count) r
-  pub is : {xs ys : List ℕ} → Gathered out k xs → Few m ys → length xs + length ys ≤ 128 → Gathered out′ r (xs ++ ys)
+  pub is : {xs ys : List ℕ} → Gathered out k xs → Few m ys → length xs + length ys ≤ mostMembers → Gathered out′ r (xs ++ ys)
 
 pub record Joined (a b r : Members) : Type 0 where
   pub is : {xs ys : List ℕ} → Lists a xs → Lists b ys → Lists r (xs ++ ys)
 
-pub record AsListed (p : Part) (r : Listed) : Type 0 where
-  pub is : (o : Out (List ℕ)) (s w : List ℕ) → AnswersPart o s w p → Answers o s w r
+pub record AsListed (p : AtMostOne) (r : Listed) : Type 0 where
+  pub is : (o : Out (List ℕ)) (w : List ℕ) → AnswersPart o w p → Answers o w r
 
 -- the members and a node behind them, where it fits
 pub record WithLast (m : Members) (g : Given) (r : Listed) : Type 0 where
-  pub is : (o : Out ℕ) (s w : List ℕ) {xs : List ℕ} → Stores o s w g → Few m xs → length xs < 128
-      → ((x : ℕ) (st : State) → o ≡ ok x st → Under (length (st .nodes)) xs) → Answers (bind o (λ x. give (xs ++ (x ∷ [])))) s w r
+  pub is : (o : Out ℕ) (w : List ℕ) {xs : List ℕ} → Stores o w g → Few m xs → length xs < mostMembers
+      → ((x : ℕ) (st : State) → o ≡ ok x st → Under (length (st .nodes)) xs) → Answers (bind o (λ x. give (xs ++ (x ∷ [])))) w r
 
--- the cells of facts from f on say which of count variables the pass preserves
-pub record Preserves (p : rules.Pass) (facts : List ℕ) (f count : ℕ) : Type 0 where
+-- the cells of the table from f on say which of count variables the pass preserves
+pub record Preserves (p : rules.Pass) (table : List ℕ) (f count : ℕ) : Type 0 where
   pub size : p .count ≡ count
-  pub is : (v : ℕ) → v < count → p .preserved v ≡ not (eqb (cell facts (f + v)) 0)
+  pub is : (v : ℕ) → v < count → p .preserved v ≡ not (eqb (cell table (f + v)) 0)
 
-pub record Drops (facts : List ℕ) (f count : ℕ) (s w : List ℕ) (x : ℕ) (r : Bool) : Type 0 where
-  pub is : {p : rules.Pass} → Preserves p facts f count → Asks (should-drop-filler p) s w x r
+pub record Drops (table : List ℕ) (f count : ℕ) (w : List ℕ) (x : ℕ) (r : Bool) : Type 0 where
+  pub is : {p : rules.Pass} → Preserves p table f count → Asks (should-drop-filler p) w x r
 
 -- the members that are no fillers
 abbrev pub stays : rules.Pass → List Node → ℕ → Bool
 stays p ns x = not (should-drop-filler p ns x)
 
-pub record Concrete (facts : List ℕ) (f count : ℕ) (s w : List ℕ) (m r : Members) : Type 0 where
-  pub is : {p : rules.Pass} → Preserves p facts f count → Makes (sift (stays p)) s w m r
+pub record DropsFillers (table : List ℕ) (f count : ℕ) (w : List ℕ) (m r : Members) : Type 0 where
+  pub is : {p : rules.Pass} → Preserves p table f count → Makes (sift (stays p)) w m r
+
+-- the first n cells of ms as members
+abbrev pub firstOf : ℕ → List ℕ → Members
+firstOf n ms = record { count = n; at = ms }
+
+-- r is the answer of the test f on the nodes x and y
+pub record Pairs (f : List Node → ℕ → ℕ → Bool) (w : List ℕ) (x y : ℕ) (r : Bool) : Type 0 where
+  pub is : {q : Pass} {ns : List Node} → Arena w q ns → x < length ns → y < length ns → r ≡ f ns x y

@@ -1,8 +1,4 @@
-// The member-list functions of collect.rs, each under its name. A list of members is by value; its nodes are numbers of the arena.
+// Lists of members by value, their nodes by number of the arena; flattening and negation, each under its name in collect.rs.
 pub mod lists;
 pub mod flatten;
-pub mod unions;
-pub mod intersections;
-pub mod factor;
-pub mod merge;
 pub mod negate;

@@ -5,15 +5,15 @@ use cells::get;
 use cells::place;
 use cells::put;
 use cells::set;
-use lang_ty::arena;
 use lang_ty::arena::Given;
 use lang_ty::arena::OutputTy;
 use lang_ty::arena::Pass;
+use lang_ty::arena;
 use lang_ty::disjoint;
 ghost use mathlib.Core.List.{[], _∷_};
 ghost use Rattle.cells.specs.Part.{part};
 ghost use Rattle.rules.specs.Members.{isPositive, isConcrete};
-ghost use Rattle.members.specs.Lists.{Few, Lists, Makes, Tests, Asks, Refuses, Contains, KeepsIf, anyOfKind, ofKind, sift, Soles, Grows, CopiedInto, Joined, AsListed, WithLast, Drops, Concrete};
+ghost use Rattle.members.specs.Lists.{Few, Lists, Makes, Tests, Asks, Refuses, Contains, KeepsIf, anyOfKind, ofKind, sift, Soles, Grows, CopiedInto, Joined, AsListed, WithLast, Drops, DropsFillers};
 
 // The first count cells of at; a count above 128 says that there are more than fit.
 pub struct Members {
@@ -33,7 +33,7 @@ pub struct Listed {
 }
 
 // No member, one, or a refusal.
-pub enum Part {
+pub enum AtMostOne {
     Nothing(Pass),
     One(u32, Pass),
     Refused(u32),
@@ -96,14 +96,14 @@ pub fn keep_if(out: &mut [u32], k: u32, x: u32, kept: bool) -> u32
     add(k, 1)
 }
 
-pub fn any_of_kind(starts: &[u32], words: &[u32], m: Members, kind: u32) -> bool
-    ensures { λ r. ⌜ Tests (anyOfKind kind) (now (starts .entry)) (now (words .entry)) m r ⌝ }
+pub fn any_of_kind(arena: &[u32], m: Members, kind: u32) -> bool
+    ensures { λ r. ⌜ Tests (anyOfKind kind) (now (arena .entry)) m r ⌝ }
 {
     let ms = m.at;
     let n = m.count;
     let mut i = 0;
     while i < n {
-        if arena::is(starts, words, kind, at(&ms, i)) {
+        if arena::is(arena, kind, at(&ms, i)) {
             return true;
         }
         i += 1;
@@ -112,10 +112,10 @@ pub fn any_of_kind(starts: &[u32], words: &[u32], m: Members, kind: u32) -> bool
 }
 
 // Neither a Neg nor a TyVar, Bottom or Top.
-pub fn is_positive(starts: &[u32], words: &[u32], x: u32) -> bool
-    ensures { λ r. ⌜ Asks isPositive (now (starts .entry)) (now (words .entry)) x r ⌝ }
+pub fn is_positive(arena: &[u32], x: u32) -> bool
+    ensures { λ r. ⌜ Asks isPositive (now (arena .entry)) x r ⌝ }
 {
-    let k = arena::kind(starts, words, x);
+    let k = arena::kind(arena, x);
     if k == OutputTy::NEG {
         return false;
     }
@@ -128,27 +128,27 @@ pub fn is_positive(starts: &[u32], words: &[u32], x: u32) -> bool
     k != OutputTy::TOP
 }
 
-pub fn is_concrete(starts: &[u32], words: &[u32], x: u32) -> bool
-    ensures { λ r. ⌜ Asks isConcrete (now (starts .entry)) (now (words .entry)) x r ⌝ }
+pub fn is_concrete(arena: &[u32], x: u32) -> bool
+    ensures { λ r. ⌜ Asks isConcrete (now (arena .entry)) x r ⌝ }
 {
-    disjoint::is_constructor(arena::kind(starts, words, x))
+    disjoint::is_constructor(arena::kind(arena, x))
 }
 
 // Nothing of nothing, a sole member itself, more as one stored node of that kind.
-pub fn sole(starts: &mut [u32], words: &mut [u32], q: Pass, kind: u32, m: Members) -> Part
-    ensures { λ r. ⌜ Soles kind (now (starts .entry)) (now (words .entry)) q m (now (starts .exit)) (now (words .exit)) r ⌝ }
+pub fn sole(arena: &mut [u32], q: Pass, kind: u32, m: Members) -> AtMostOne
+    ensures { λ r. ⌜ Soles kind (now (arena .entry)) q m (now (arena .exit)) r ⌝ }
 {
     let ms = m.at;
     let n = m.count;
     if n == 0 {
-        return Part::Nothing(q);
+        return AtMostOne::Nothing(q);
     }
     if n == 1 {
-        return Part::One(ms[0], q);
+        return AtMostOne::One(ms[0], q);
     }
-    match arena::store_list(starts, words, q, kind, &ms, 0, n) {
-        Given::Node(x, r) => Part::One(x, r),
-        Given::Refused(k) => Part::Refused(k),
+    match arena::store_list(arena, q, kind, &ms, 0, n) {
+        Given::Node(x, r) => AtMostOne::One(x, r),
+        Given::Refused(k) => AtMostOne::Refused(k),
     }
 }
 
@@ -159,16 +159,16 @@ pub enum Grown {
 }
 
 // What is left of a member put behind the first k cells of out.
-pub fn grow(out: &mut [u32], k: u32, p: Part) -> Grown
+pub fn grow(out: &mut [u32], k: u32, p: AtMostOne) -> Grown
     ensures { λ r. ⌜ Grows (now (out .entry)) k p (now (out .exit)) r ⌝ }
 {
     match p {
-        Part::Nothing(q) => Grown::On(k, q),
-        Part::One(x, q) => {
+        AtMostOne::Nothing(q) => Grown::On(k, q),
+        AtMostOne::One(x, q) => {
             set(out, k, x);
             Grown::On(add(k, 1), q)
         }
-        Part::Refused(why) => Grown::Refused(why),
+        AtMostOne::Refused(why) => Grown::Refused(why),
     }
 }
 
@@ -204,33 +204,33 @@ pub fn one(x: u32) -> Members
     Members { count: 1, at: ms }
 }
 
-pub fn as_listed(p: Part) -> Listed
+pub fn as_listed(p: AtMostOne) -> Listed
     ensures { λ r. ⌜ AsListed p r ⌝ }
 {
     match p {
-        Part::Nothing(q) => {
+        AtMostOne::Nothing(q) => {
             let m = none();
             Listed {
                 flow: Flow::On(q),
                 members: m,
             }
         }
-        Part::One(x, q) => {
+        AtMostOne::One(x, q) => {
             let m = one(x);
             Listed {
                 flow: Flow::On(q),
                 members: m,
             }
         }
-        Part::Refused(k) => refused(k),
+        AtMostOne::Refused(k) => refused(k),
     }
 }
 
 // Whether x is of that kind, or is not.
-fn of_that_kind(starts: &[u32], words: &[u32], kind: u32, wanted: bool, x: u32) -> bool
-    ensures { λ r. ⌜ Asks (ofKind kind wanted) (now (starts .entry)) (now (words .entry)) x r ⌝ }
+fn of_that_kind(arena: &[u32], kind: u32, wanted: bool, x: u32) -> bool
+    ensures { λ r. ⌜ Asks (ofKind kind wanted) (now (arena .entry)) x r ⌝ }
 {
-    let hit = arena::is(starts, words, kind, x);
+    let hit = arena::is(arena, kind, x);
     if wanted {
         return hit;
     }
@@ -238,8 +238,8 @@ fn of_that_kind(starts: &[u32], words: &[u32], kind: u32, wanted: bool, x: u32) 
 }
 
 // The members that are of that kind, or those that are not.
-pub fn of_kind(starts: &[u32], words: &[u32], m: Members, kind: u32, wanted: bool) -> Members
-    ensures { λ r. ⌜ Makes (sift (ofKind kind wanted)) (now (starts .entry)) (now (words .entry)) m r ⌝ }
+pub fn of_kind(arena: &[u32], m: Members, kind: u32, wanted: bool) -> Members
+    ensures { λ r. ⌜ Makes (sift (ofKind kind wanted)) (now (arena .entry)) m r ⌝ }
 {
     let ms = m.at;
     let n = m.count;
@@ -248,7 +248,7 @@ pub fn of_kind(starts: &[u32], words: &[u32], m: Members, kind: u32, wanted: boo
     let mut i = 0;
     while i < n {
         let x = at(&ms, i);
-        k = keep_if(&mut out, k, x, of_that_kind(starts, words, kind, wanted, x));
+        k = keep_if(&mut out, k, x, of_that_kind(arena, kind, wanted, x));
         i += 1;
     }
     Members { count: k, at: out }
@@ -270,11 +270,11 @@ pub fn with_last(m: Members, g: Given) -> Listed
     }
 }
 
-// should_drop_filler: Bottom, Top, or a TyVar of count or more, or one that is not preserved, as the cells of facts from f on tell.
-fn should_drop_filler(starts: &[u32], words: &[u32], facts: &[u32], f: u32, count: u32, x: u32) -> bool
-    ensures { λ r. ⌜ Drops (now (facts .entry)) f count (now (starts .entry)) (now (words .entry)) x r ⌝ }
+// should_drop_filler: Bottom, Top, or a TyVar of count or more, or one that is not preserved, as the cells of the table from f on tell.
+fn should_drop_filler(arena: &[u32], table: &[u32], f: u32, count: u32, x: u32) -> bool
+    ensures { λ r. ⌜ Drops (now (table .entry)) f count (now (arena .entry)) x r ⌝ }
 {
-    let k = arena::kind(starts, words, x);
+    let k = arena::kind(arena, x);
     if k == OutputTy::BOTTOM {
         return true;
     }
@@ -284,16 +284,16 @@ fn should_drop_filler(starts: &[u32], words: &[u32], facts: &[u32], f: u32, coun
     if k != OutputTy::TY_VAR {
         return false;
     }
-    let v = arena::word(starts, words, x, 1);
+    let v = arena::word(arena, x, 1);
     if count <= v {
         return true;
     }
-    get(facts, place(f, v)) == 0
+    get(table, place(f, v)) == 0
 }
 
 // The members that are no fillers.
-pub fn concrete(starts: &[u32], words: &[u32], facts: &[u32], f: u32, count: u32, m: Members) -> Members
-    ensures { λ r. ⌜ Concrete (now (facts .entry)) f count (now (starts .entry)) (now (words .entry)) m r ⌝ }
+pub fn drop_fillers(arena: &[u32], table: &[u32], f: u32, count: u32, m: Members) -> Members
+    ensures { λ r. ⌜ DropsFillers (now (table .entry)) f count (now (arena .entry)) m r ⌝ }
 {
     let ms = m.at;
     let n = m.count;
@@ -302,7 +302,7 @@ pub fn concrete(starts: &[u32], words: &[u32], facts: &[u32], f: u32, count: u32
     let mut i = 0;
     while i < n {
         let x = at(&ms, i);
-        k = keep_if(&mut out, k, x, !should_drop_filler(starts, words, facts, f, count, x));
+        k = keep_if(&mut out, k, x, !should_drop_filler(arena, table, f, count, x));
         i += 1;
     }
     Members { count: k, at: out }

@@ -11,3 +11,6 @@ pub mod Rooting
 pub mod Moving
 pub mod Caching
 pub mod Chaining
+pub mod Admitting
+pub mod Joining
+pub mod Accepting

@@ -10,4 +10,5 @@ pub mod Listing
 pub mod Calls
 pub mod Numbers
 pub mod Examples
+pub mod CallExamples
 pub mod Sound

@@ -14,13 +14,14 @@ use Rattle.cells.proofs.Parts.{run-at, run-length, run-snoc, run-ext}
 use Rattle.rules.specs.Plain.{before}
 use Rattle.rules.specs.Table.{entryOf, inOrder, addRow, rowWeight, add, over, afterLast, ascends, frozenEntry, Reading, Taken, taken, fault, admit, begun, lines, asSet, keysAscend}
 use Rattle.rules.specs.Table as rules
+use Rattle.layout.specs.Layout.{rowsAt}
 use Rattle.text.specs.Reads.{span, Above}
 use Rattle.text.proofs.Spans.{span-same, span-length}
 use Rattle.table.specs.declared.Table.{Table}
-use Rattle.table.specs.declared.Progress.{Progress}
-use Rattle.table.specs.declared.Verdict.{Verdict}
-use Rattle.table.specs.declared.Verdict.the-variants.{Taken as TakenV, Fault}
-use Rattle.table.specs.Rows.{countRow, overBy, nameAfter, ascendsBy, Fine, advanceBy, judgeBy, rowAt, bare, tableAt, budgetBy, readingOf, Layout}
+use Rattle.table.specs.declared.judging.Progress.{Progress}
+use Rattle.table.specs.declared.judging.Verdict.{Verdict}
+use Rattle.table.specs.declared.judging.Verdict.the-variants.{Taken as TakenV, Fault}
+use Rattle.table.specs.Rows.{beginAt, countRow, overBy, nameAfter, ascendsBy, Fine, advanceBy, judgeBy, rowAt, bare, tableAt, budgetBy, readingOf, Layout}
 use Rattle.table.proofs.Growing.{begun-in-order, built, bare-snoc}
 
 pub zero-or : (n : ℕ) → (n ≡ 0) ⊎ (n ≡ 0 → ⊥)
@@ -28,7 +29,7 @@ zero-or zero = inl refl
 zero-or (suc n) = inr (λ e. let z : ⊥ = omega arith in z)
 
 -- what is written above the rows leaves the reading
-module _ (p : Progress) (s w w′ : List ℕ) (f : Fine p) (l : Layout p s) (a : Above (p .top) w w′) where
+module _ (p : Progress) (w w′ : List ℕ) (f : Fine p) (l : Layout p w) (a : Above (p .top) w w′) where
   inside : (k : ℕ) → 1 ≤ k → k < 1 + p .table .names + p .table .entries + p .table .pairs + p .table .marks + p .table .roots → k < p .lines
   inside k low high =
       ⊎-elim
@@ -36,20 +37,34 @@ module _ (p : Progress) (s w w′ : List ℕ) (f : Fine p) (l : Layout p s) (a :
       (λ e. let b = f .begun e in omega arith)
       (zero-or (p .stage))
 
-  row-same : (k : ℕ) → k < p .lines → rowAt s w k ≡ rowAt s w′ k
-  row-same k h = sym (span-same (p .top) w w′ (cell s k) (cell s (k + 1)) a (l .within (k + 1) (omega arith)))
+  begin-same : (k : ℕ) → k ≤ p .lines → beginAt w k ≡ beginAt w′ k
+  begin-same k h = sym (a .below (rowsAt + k) (omega (arith, l .behind (p .lines) (omega arith), l .ends, f .few-lines)))
 
-  run-same : (b n : ℕ) → 1 ≤ b → b + n ≤ 1 + p .table .names + p .table .entries + p .table .pairs + p .table .marks + p .table .roots → run (rowAt s w) b n ≡ run (rowAt s w′) b n
-  run-same b n low high = run-ext (rowAt s w) (rowAt s w′) b n (λ k x y. row-same k (inside k (omega arith) (omega arith)))
+  row-same : (k : ℕ) → k < p .lines → rowAt w k ≡ rowAt w′ k
+  row-same k h =
+      sym (span-same (p .top) w w′ (beginAt w k) (beginAt w (k + 1)) a (l .within (k + 1) (omega arith)))
+      ∙ ap₂ {C = List ℕ} (span w′) (begin-same k (omega arith)) (begin-same (k + 1) (omega arith))
 
-  budget-same : budgetBy (p .stage) s w ≡ budgetBy (p .stage) s w′
+  -- and the places of the rows
+  pub layout-same : Layout p w′
+  layout-same = record {
+    ends = sym (begin-same (p .lines) (omega arith)) ∙ l .ends;
+    order = λ i h. let x = begin-same i (omega arith) in let y = begin-same (i + 1) (omega arith) in omega (arith, l .order i h);
+    behind = λ i h. let x = begin-same i h in omega (arith, l .behind i h);
+    within = λ i h. let x = begin-same i h in omega (arith, l .within i h);
+  }
+
+  run-same : (b n : ℕ) → 1 ≤ b → b + n ≤ 1 + p .table .names + p .table .entries + p .table .pairs + p .table .marks + p .table .roots → run (rowAt w) b n ≡ run (rowAt w′) b n
+  run-same b n low high = run-ext (rowAt w) (rowAt w′) b n (λ k x y. row-same k (inside k (omega arith) (omega arith)))
+
+  budget-same : budgetBy (p .stage) w ≡ budgetBy (p .stage) w′
   budget-same =
       ⊎-elim
       (λ e. simp (eq-eqb (p .stage) 0 e))
       (λ e. let b = f .begun e in let z = row-same 0 (omega arith) in simp (ne-eqb (p .stage) 0 e) (ap (λ (r : List ℕ). cell r 1) z))
       (zero-or (p .stage))
 
-  table-same : tableAt (budgetBy (p .stage) s w) (p .table) s w ≡ tableAt (budgetBy (p .stage) s w′) (p .table) s w′
+  table-same : tableAt (budgetBy (p .stage) w) (p .table) w ≡ tableAt (budgetBy (p .stage) w′) (p .table) w′
   table-same =
       built budget-same
       (ap bare (run-same 1 (p .table .names) (omega arith) (omega arith)))
@@ -58,7 +73,7 @@ module _ (p : Progress) (s w w′ : List ℕ) (f : Fine p) (l : Layout p s) (a :
       (ap bare (run-same (1 + p .table .names + p .table .entries + p .table .pairs) (p .table .marks) (omega arith) (omega arith)))
       (ap bare (run-same (1 + p .table .names + p .table .entries + p .table .pairs + p .table .marks) (p .table .roots) (omega arith) (omega arith)))
 
-  pub reading-same : readingOf p s w ≡ readingOf p s w′
+  pub reading-same : readingOf p w ≡ readingOf p w′
   reading-same = ap (λ (t : rules.Table). record { stage = p .stage; ids = p .ids; table = t }) table-same
 
 -- the ceilings, by counts
@@ -78,22 +93,22 @@ lengths-add t s row =
     (map-if lengthsOf (eqb s 4) _ _ _ _ (λ i. record { names = length (t .names); entries = length (t .entries); pairs = length (t .pairs); marks = length-append (t .marks) (drop 1 row ∷ []) i; roots = length (t .roots) })
     (λ i. record { names = length (t .names); entries = length (t .entries); pairs = length (t .pairs); marks = length (t .marks); roots = length-append (t .roots) (drop 1 row ∷ []) i })))))
 
-pub bare-length : (s w : List ℕ) (a n : ℕ) → length (bare (run (rowAt s w) a n)) ≡ n
-bare-length s w a n = length-map (run (rowAt s w) a n) (drop 1) ∙ run-length (rowAt s w) a n
+pub bare-length : (w : List ℕ) (a n : ℕ) → length (bare (run (rowAt w) a n)) ≡ n
+bare-length w a n = length-map (run (rowAt w) a n) (drop 1) ∙ run-length (rowAt w) a n
 
-lengths-at : (b : ℕ) (t : Table) (s w : List ℕ) → lengthsOf (tableAt b t s w) ≡ t
-lengths-at b t s w = λ i. record {
-  names = bare-length s w 1 (t .names) i;
-  entries = run-length (rowAt s w) (1 + t .names) (t .entries) i;
-  pairs = bare-length s w (1 + t .names + t .entries) (t .pairs) i;
-  marks = bare-length s w (1 + t .names + t .entries + t .pairs) (t .marks) i;
-  roots = bare-length s w (1 + t .names + t .entries + t .pairs + t .marks) (t .roots) i;
+lengths-at : (b : ℕ) (t : Table) (w : List ℕ) → lengthsOf (tableAt b t w) ≡ t
+lengths-at b t w = λ i. record {
+  names = bare-length w 1 (t .names) i;
+  entries = run-length (rowAt w) (1 + t .names) (t .entries) i;
+  pairs = bare-length w (1 + t .names + t .entries) (t .pairs) i;
+  marks = bare-length w (1 + t .names + t .entries + t .pairs) (t .marks) i;
+  roots = bare-length w (1 + t .names + t .entries + t .pairs + t .marks) (t .roots) i;
 }
 
-module _ (p : Progress) (s w : List ℕ) (to : ℕ) where
-  over-same : (sec : ℕ) → overBy (countRow (p .table) sec) (p .ids + rowWeight sec (span w (p .top) to)) sec ((to - p .top) - 1) ≡ over (add (readingOf p s w) sec (span w (p .top) to)) sec (span w (p .top) to)
+module _ (p : Progress) (w : List ℕ) (to : ℕ) where
+  over-same : (sec : ℕ) → overBy (countRow (p .table) sec) (p .ids + rowWeight sec (span w (p .top) to)) sec ((to - p .top) - 1) ≡ over (add (readingOf p w) sec (span w (p .top) to)) sec (span w (p .top) to)
   over-same sec =
-      let sizes : countRow (p .table) sec ≡ lengthsOf (addRow (tableAt (budgetBy (p .stage) s w) (p .table) s w) sec (span w (p .top) to)) = ap (λ (t : Table). countRow t sec) (sym (lengths-at (budgetBy (p .stage) s w) (p .table) s w)) ∙ sym (lengths-add (tableAt (budgetBy (p .stage) s w) (p .table) s w) sec (span w (p .top) to)) in
+      let sizes : countRow (p .table) sec ≡ lengthsOf (addRow (tableAt (budgetBy (p .stage) w) (p .table) w) sec (span w (p .top) to)) = ap (λ (t : Table). countRow t sec) (sym (lengths-at (budgetBy (p .stage) w) (p .table) w)) ∙ sym (lengths-add (tableAt (budgetBy (p .stage) w) (p .table) w) sec (span w (p .top) to)) in
       let size : (to - p .top) - 1 ≡ length (drop 1 (span w (p .top) to)) = let a = length-drop 1 (span w (p .top) to) in let b = span-length w (p .top) to in omega arith in
       ap₂ {C = Bool} (λ (t : Table) (n : ℕ). overBy t (p .ids + rowWeight sec (span w (p .top) to)) sec n) sizes size
 
@@ -114,22 +129,22 @@ if-at : (b : Bool) (x x′ y : Bool) → (b ≡ true → x ≡ x′) → if b (�
 if-at true x x′ y h = h refl
 if-at false x x′ y h = refl
 
-module _ (p : Progress) (s w : List ℕ) (to : ℕ) (f : Fine p) (l : Layout p s) where
-  names-by : (n : ℕ) → n ≡ p .table .names → n + 1 ≡ p .lines → nameAfter p s w to ≡ afterLast (bare (run (rowAt s w) 1 n)) (drop 1 (span w (p .top) to))
+module _ (p : Progress) (w : List ℕ) (to : ℕ) (f : Fine p) (l : Layout p w) where
+  names-by : (n : ℕ) → n ≡ p .table .names → n + 1 ≡ p .lines → nameAfter p w to ≡ afterLast (bare (run (rowAt w) 1 n)) (drop 1 (span w (p .top) to))
   names-by zero e h = simp (eq-eqb (p .table .names) 0 (sym e))
   names-by (suc m) e h =
-      let here : cell s (1 + m + 1) ≡ p .top = ap (cell s) (omega arith) ∙ l .ends in
+      let here : beginAt w (1 + m + 1) ≡ p .top = ap (beginAt w) (omega arith) ∙ l .ends in
       let some-names : eqb (p .table .names) 0 ≡ false = ne-eqb (p .table .names) 0 (λ z. omega arith) in
-      let last : drop 1 (rowAt s w (1 + m)) ≡ span w (cell s (p .table .names) + 1) (p .top) =
-      drop-span w (cell s (1 + m)) (cell s (1 + m + 1)) ∙ ap₂ {C = List ℕ} (λ (x y : ℕ). span w (cell s x + 1) y) (let z : 1 + m ≡ p .table .names = omega arith in z) here in
+      let last : drop 1 (rowAt w (1 + m)) ≡ span w (beginAt w (p .table .names) + 1) (p .top) =
+      drop-span w (beginAt w (1 + m)) (beginAt w (1 + m + 1)) ∙ ap₂ {C = List ℕ} (λ (x y : ℕ). span w (beginAt w x + 1) y) (let z : 1 + m ≡ p .table .names = omega arith in z) here in
       simp some-names
       (ap₂ {C = Bool} before (sym last) (sym (drop-span w (p .top) to))
-      ∙ sym (after-last (bare (run (rowAt s w) 1 m)) (drop 1 (rowAt s w (1 + m))) (drop 1 (span w (p .top) to)))
-      ∙ ap (λ (x : List (List ℕ)). afterLast x (drop 1 (span w (p .top) to))) (sym (ap bare (run-snoc (rowAt s w) 1 m) ∙ bare-snoc (run (rowAt s w) 1 m) (rowAt s w (1 + m)))))
+      ∙ sym (after-last (bare (run (rowAt w) 1 m)) (drop 1 (rowAt w (1 + m))) (drop 1 (span w (p .top) to)))
+      ∙ ap (λ (x : List (List ℕ)). afterLast x (drop 1 (span w (p .top) to))) (sym (ap bare (run-snoc (rowAt w) 1 m) ∙ bare-snoc (run (rowAt w) 1 m) (rowAt w (1 + m)))))
 
-  ascends-same : (sec : ℕ) → inOrder (p .stage) sec ≡ true → ascendsBy p s w to sec ≡ ascends (tableAt (budgetBy (p .stage) s w) (p .table) s w) sec (span w (p .top) to)
+  ascends-same : (sec : ℕ) → inOrder (p .stage) sec ≡ true → ascendsBy p w to sec ≡ ascends (tableAt (budgetBy (p .stage) w) (p .table) w) sec (span w (p .top) to)
   ascends-same sec h =
-      if-at (eqb sec 1) (nameAfter p s w to) (afterLast (bare (run (rowAt s w) 1 (p .table .names))) (drop 1 (span w (p .top) to))) (if (eqb sec 2) (λ _. keysAscend (asSet (entryOf (span w (p .top) to)))) (λ _. true))
+      if-at (eqb sec 1) (nameAfter p w to) (afterLast (bare (run (rowAt w) 1 (p .table .names))) (drop 1 (span w (p .top) to))) (if (eqb sec 2) (λ _. keysAscend (asSet (entryOf (span w (p .top) to)))) (λ _. true))
       (λ q.
       let o = begun-in-order (p .stage) 0 (subst (λ (k : ℕ). inOrder (p .stage) k ≡ true) (eqb-true sec 1 q) h) in
       let b = f .begun (o .0) in
@@ -164,9 +179,9 @@ if-when : (a : Bool) (x y : Taken) (z : Taken) → (a ≡ true → x ≡ y) → 
 if-when true x y z h = h refl
 if-when false x y z h = refl
 
-module _ (p : Progress) (s w : List ℕ) (to : ℕ) (f : Fine p) (l : Layout p s) where
-  pub admitted-by : (sec : ℕ) → said (judgeBy p s w to sec) (add (readingOf p s w) sec (span w (p .top) to)) ≡ admit (readingOf p s w) sec (span w (p .top) to)
+module _ (p : Progress) (w : List ℕ) (to : ℕ) (f : Fine p) (l : Layout p w) where
+  pub admitted-by : (sec : ℕ) → said (judgeBy p w to sec) (add (readingOf p w) sec (span w (p .top) to)) ≡ admit (readingOf p w) sec (span w (p .top) to)
   admitted-by sec =
-      push (inOrder (p .stage) sec) (overBy (countRow (p .table) sec) (p .ids + rowWeight sec (span w (p .top) to)) sec ((to - p .top) - 1)) (ascendsBy p s w to sec) (eqb (cell (span w (p .top) to) 0) frozenEntry) (advanceBy p sec (rowWeight sec (span w (p .top) to)) to) (add (readingOf p s w) sec (span w (p .top) to))
+      push (inOrder (p .stage) sec) (overBy (countRow (p .table) sec) (p .ids + rowWeight sec (span w (p .top) to)) sec ((to - p .top) - 1)) (ascendsBy p w to sec) (eqb (cell (span w (p .top) to) 0) frozenEntry) (advanceBy p sec (rowWeight sec (span w (p .top) to)) to) (add (readingOf p w) sec (span w (p .top) to))
       ∙ if-when (inOrder (p .stage) sec) _ _ (fault 1)
-      (λ h. ap₂ {C = Taken} (λ (b c : Bool). if b (λ _. fault 2) (λ _. if c (λ _. if (eqb (cell (span w (p .top) to) 0) frozenEntry) (λ _. fault 5) (λ _. taken (add (readingOf p s w) sec (span w (p .top) to)))) (λ _. fault 4))) (over-same p s w to sec) (ascends-same p s w to f l sec h))
+      (λ h. ap₂ {C = Taken} (λ (b c : Bool). if b (λ _. fault 2) (λ _. if c (λ _. if (eqb (cell (span w (p .top) to) 0) frozenEntry) (λ _. fault 5) (λ _. taken (add (readingOf p w) sec (span w (p .top) to)))) (λ _. fault 4))) (over-same p w to sec) (ascends-same p w to f l sec h))

@@ -13,7 +13,7 @@ use Rattle.cells.proofs.Parts.{run-length}
 use Rattle.rules.specs.Plain.{none, some, both, ascending}
 use Rattle.rules.specs.Table.{Entry, var, prim, tyvar, list, fn, set, neg, named, inter, union, frozen, attrAt, entryOf, fieldsAt, dynIds, dynPlace, openPlace, fieldTypes, fieldKeys, asSet, keysAscend, weight}
 use Rattle.text.specs.Reads.{span}
-use Rattle.table.specs.declared.Places.{Places}
+use Rattle.table.specs.declared.rows.Places.{Places}
 use Rattle.table.specs.Rows.{At, every, Ascend, Present, PlacedIn, Placed, PlainWeight, Weight, KeysAscend}
 
 -- the lists of a row, cell by cell

@@ -15,10 +15,12 @@ use Rattle.cells.proofs.Parts.{run-at, run-snoc, run-ext}
 use Rattle.rules.specs.Ceilings.{mostIds}
 use Rattle.rules.specs.Table.{inOrder, addRow, stageAfter}
 use Rattle.rules.specs.Table as rules
+use Rattle.layout.specs.Layout.{rowsAt, tableWords, tableLength}
 use Rattle.text.specs.Reads.{span}
+use Rattle.text.proofs.Spans.{span-before}
 use Rattle.table.specs.declared.Table.{Table}
-use Rattle.table.specs.declared.Progress.{Progress}
-use Rattle.table.specs.Rows.{Few, countRow, Fine, advanceBy, rowAt, bare, tableAt, budgetBy, Layout}
+use Rattle.table.specs.declared.judging.Progress.{Progress}
+use Rattle.table.specs.Rows.{mostLines, beginAt, Few, countRow, Fine, advanceBy, rowAt, bare, tableAt, budgetBy, Layout}
 
 -- what a row in order tells: it is the budget line and the first, or of a section that is not past
 pub in-order : (stage sec : ℕ) → inOrder stage sec ≡ true → ((stage ≡ 0) × (sec ≡ 0)) ⊎ ((stage ≡ 0 → ⊥) × (stage ≤ sec))
@@ -39,118 +41,130 @@ bare-snoc (x ∷ rs) r = ap (λ (l : List (List ℕ)). drop 1 x ∷ l) (bare-sno
 empty : (f g : ℕ → List ℕ) (a b n : ℕ) → n ≡ 0 → run f a n ≡ run g b n
 empty f g a b n e = ap (run f a) e ∙ sym (ap (run g b) e)
 
-module _ (p : Progress) (s w : List ℕ) (to : ℕ) (f : Fine p) (l : Layout p s) (fits : p .lines + 1 < length s) where
-  old : (i : ℕ) → i ≤ p .lines → cell (set s (p .lines + 1) to) i ≡ cell s i
-  old i h = getD-set-other s (p .lines + 1) i to 0 (omega arith)
+-- the beginning of the row behind the last, where that ends
+abbrev noted : List ℕ → ℕ → ℕ → List ℕ
+noted w n to = set w (rowsAt + n) to
 
-  new : cell (set s (p .lines + 1) to) (p .lines + 1) ≡ to
-  new = getD-set-same s (p .lines + 1) to 0 fits
+module _ (p : Progress) (w : List ℕ) (to : ℕ) (l : Layout p w) (few : p .lines + 1 ≤ mostLines) (room : tableLength ≤ length w) where
+  old : (i : ℕ) → i ≤ p .lines → beginAt (noted w (p .lines + 1) to) i ≡ beginAt w i
+  old i h = getD-set-other w (rowsAt + (p .lines + 1)) (rowsAt + i) to 0 (omega arith)
 
-  old-row : (i : ℕ) → i < p .lines → rowAt (set s (p .lines + 1) to) w i ≡ rowAt s w i
-  old-row i h = ap₂ {C = List ℕ} (span w) (old i (omega arith)) (old (i + 1) (omega arith))
+  new : beginAt (noted w (p .lines + 1) to) (p .lines + 1) ≡ to
+  new = getD-set-same w (rowsAt + (p .lines + 1)) to 0 (omega arith)
 
-  new-row : rowAt (set s (p .lines + 1) to) w (p .lines) ≡ span w (p .top) to
-  new-row = ap₂ {C = List ℕ} (span w) (old (p .lines) (omega arith) ∙ l .ends) new
+  kept : (a e : ℕ) → tableWords ≤ a → span (noted w (p .lines + 1) to) a e ≡ span w a e
+  kept a e h = span-before w (rowsAt + (p .lines + 1)) to a e (omega arith)
 
-  keep : (a n : ℕ) → a + n ≤ p .lines → run (rowAt s w) a n ≡ run (rowAt (set s (p .lines + 1) to) w) a n
-  keep a n h = run-ext (rowAt s w) (rowAt (set s (p .lines + 1) to) w) a n (λ k x y. sym (old-row k (omega arith)))
+  old-row : (i : ℕ) → i < p .lines → rowAt (noted w (p .lines + 1) to) i ≡ rowAt w i
+  old-row i h =
+      ap₂ {C = List ℕ} (span (noted w (p .lines + 1) to)) (old i (omega arith)) (old (i + 1) (omega arith))
+      ∙ kept (beginAt w i) (beginAt w (i + 1)) (l .behind i (omega arith))
 
-  gain : (a n : ℕ) → a + n ≡ p .lines → run (rowAt s w) a n ++ (span w (p .top) to ∷ []) ≡ run (rowAt (set s (p .lines + 1) to) w) a (n + 1)
+  new-row : rowAt (noted w (p .lines + 1) to) (p .lines) ≡ span w (p .top) to
+  new-row =
+      ap₂ {C = List ℕ} (span (noted w (p .lines + 1) to)) (old (p .lines) (omega arith) ∙ l .ends) new
+      ∙ kept (p .top) to (omega (arith, l .behind (p .lines) (omega arith), l .ends))
+
+  keep : (a n : ℕ) → a + n ≤ p .lines → run (rowAt w) a n ≡ run (rowAt (noted w (p .lines + 1) to)) a n
+  keep a n h = run-ext (rowAt w) (rowAt (noted w (p .lines + 1) to)) a n (λ k x y. sym (old-row k (omega arith)))
+
+  gain : (a n : ℕ) → a + n ≡ p .lines → run (rowAt w) a n ++ (span w (p .top) to ∷ []) ≡ run (rowAt (noted w (p .lines + 1) to)) a (n + 1)
   gain a n h =
-      ap₂ {C = List (List ℕ)} (λ (x : List (List ℕ)) (y : List ℕ). x ++ (y ∷ [])) (keep a n (omega arith)) (sym (ap (rowAt (set s (p .lines + 1) to) w) h ∙ new-row))
-      ∙ sym (run-snoc (rowAt (set s (p .lines + 1) to) w) a n)
-      ∙ run-at (rowAt (set s (p .lines + 1) to) w) a a (suc n) (n + 1) refl (sym (add-one n))
+      ap₂ {C = List (List ℕ)} (λ (x : List (List ℕ)) (y : List ℕ). x ++ (y ∷ [])) (keep a n (omega arith)) (sym (ap (rowAt (noted w (p .lines + 1) to)) h ∙ new-row))
+      ∙ sym (run-snoc (rowAt (noted w (p .lines + 1) to)) a n)
+      ∙ run-at (rowAt (noted w (p .lines + 1) to)) a a (suc n) (n + 1) refl (sym (add-one n))
 
-  gain-bare : (a n : ℕ) → a + n ≡ p .lines → bare (run (rowAt s w) a n) ++ (drop 1 (span w (p .top) to) ∷ []) ≡ bare (run (rowAt (set s (p .lines + 1) to) w) a (n + 1))
-  gain-bare a n h = sym (bare-snoc (run (rowAt s w) a n) (span w (p .top) to)) ∙ ap bare (gain a n h)
+  gain-bare : (a n : ℕ) → a + n ≡ p .lines → bare (run (rowAt w) a n) ++ (drop 1 (span w (p .top) to) ∷ []) ≡ bare (run (rowAt (noted w (p .lines + 1) to)) a (n + 1))
+  gain-bare a n h = sym (bare-snoc (run (rowAt w) a n) (span w (p .top) to)) ∙ ap bare (gain a n h)
 
-  budget-kept : (p .stage ≡ 0 → ⊥) → budgetBy (p .stage) s w ≡ cell (rowAt (set s (p .lines + 1) to) w 0) 1
-  budget-kept h =
-      let b = f .begun h in
-      let first : rowAt s w 0 ≡ rowAt (set s (p .lines + 1) to) w 0 = sym (old-row 0 (omega arith)) in
-      simp (ne-eqb (p .stage) 0 h) (ap (λ (r : List ℕ). cell r 1) first)
+  module _ (f : Fine p) where
+    budget-kept : (p .stage ≡ 0 → ⊥) → budgetBy (p .stage) w ≡ cell (rowAt (noted w (p .lines + 1) to) 0) 1
+    budget-kept h =
+        let b = f .begun h in
+        let first : rowAt w 0 ≡ rowAt (noted w (p .lines + 1) to) 0 = sym (old-row 0 (omega arith)) in
+        simp (ne-eqb (p .stage) 0 h) (ap (λ (r : List ℕ). cell r 1) first)
 
-  late : (sec : ℕ) → 5 ≤ sec → (p .stage ≡ 0 → ⊥) → addRow (tableAt (budgetBy (p .stage) s w) (p .table) s w) sec (span w (p .top) to) ≡ tableAt (budgetBy (stageAfter sec) (set s (p .lines + 1) to) w) (countRow (p .table) sec) (set s (p .lines + 1) to) w
-  late sec five h =
-      let b = f .begun h in
-      simp (ne-eqb sec 0 (λ e. omega arith), ne-eqb sec 1 (λ e. omega arith), ne-eqb sec 2 (λ e. omega arith), ne-eqb sec 3 (λ e. omega arith), ne-eqb sec 4 (λ e. omega arith))
-      (built (budget-kept h)
-      (ap bare (keep 1 (p .table .names) (omega arith)))
-      (keep (1 + p .table .names) (p .table .entries) (omega arith))
-      (ap bare (keep (1 + p .table .names + p .table .entries) (p .table .pairs) (omega arith)))
-      (ap bare (keep (1 + p .table .names + p .table .entries + p .table .pairs) (p .table .marks) (omega arith)))
-      (gain-bare (1 + p .table .names + p .table .entries + p .table .pairs + p .table .marks) (p .table .roots) (omega arith)))
+    late : (sec : ℕ) → 5 ≤ sec → (p .stage ≡ 0 → ⊥) → addRow (tableAt (budgetBy (p .stage) w) (p .table) w) sec (span w (p .top) to) ≡ tableAt (budgetBy (stageAfter sec) (noted w (p .lines + 1) to)) (countRow (p .table) sec) (noted w (p .lines + 1) to)
+    late sec five h =
+        let b = f .begun h in
+        simp (ne-eqb sec 0 (λ e. omega arith), ne-eqb sec 1 (λ e. omega arith), ne-eqb sec 2 (λ e. omega arith), ne-eqb sec 3 (λ e. omega arith), ne-eqb sec 4 (λ e. omega arith))
+        (built (budget-kept h)
+        (ap bare (keep 1 (p .table .names) (omega arith)))
+        (keep (1 + p .table .names) (p .table .entries) (omega arith))
+        (ap bare (keep (1 + p .table .names + p .table .entries) (p .table .pairs) (omega arith)))
+        (ap bare (keep (1 + p .table .names + p .table .entries + p .table .pairs) (p .table .marks) (omega arith)))
+        (gain-bare (1 + p .table .names + p .table .entries + p .table .pairs + p .table .marks) (p .table .roots) (omega arith)))
 
-  -- the table that the rows are, with one row more
-  pub grown : (sec : ℕ) → inOrder (p .stage) sec ≡ true → addRow (tableAt (budgetBy (p .stage) s w) (p .table) s w) sec (span w (p .top) to) ≡ tableAt (budgetBy (stageAfter sec) (set s (p .lines + 1) to) w) (countRow (p .table) sec) (set s (p .lines + 1) to) w
-  grown zero h =
-      let o : p .stage ≡ 0 = ⊎-elim (λ q. q .0) (λ q. omega (arith, q .1)) (in-order (p .stage) 0 h) in
-      let z = f .unbegun o in
-      let first : span w (p .top) to ≡ rowAt (set s (p .lines + 1) to) w 0 = sym new-row ∙ ap (rowAt (set s (p .lines + 1) to) w) z in
-      built (ap (λ (r : List ℕ). cell r 1) first)
-      (ap bare (empty (rowAt s w) (rowAt (set s (p .lines + 1) to) w) 1 1 (p .table .names) (f .no-names (omega arith))))
-      (empty (rowAt s w) (rowAt (set s (p .lines + 1) to) w) (1 + p .table .names) (1 + p .table .names) (p .table .entries) (f .no-entries (omega arith)))
-      (ap bare (empty (rowAt s w) (rowAt (set s (p .lines + 1) to) w) (1 + p .table .names + p .table .entries) (1 + p .table .names + p .table .entries) (p .table .pairs) (f .no-pairs (omega arith))))
-      (ap bare (empty (rowAt s w) (rowAt (set s (p .lines + 1) to) w) (1 + p .table .names + p .table .entries + p .table .pairs) (1 + p .table .names + p .table .entries + p .table .pairs) (p .table .marks) (f .no-marks (omega arith))))
-      (ap bare (empty (rowAt s w) (rowAt (set s (p .lines + 1) to) w) (1 + p .table .names + p .table .entries + p .table .pairs + p .table .marks) (1 + p .table .names + p .table .entries + p .table .pairs + p .table .marks) (p .table .roots) (f .no-roots (omega arith))))
-  grown (suc zero) h =
-      let o = begun-in-order (p .stage) 0 h in
-      let b = f .begun (o .0) in
-      let le = o .1 in
-      let ze = f .no-entries (omega arith) in
-      let zp = f .no-pairs (omega arith) in
-      let zm = f .no-marks (omega arith) in
-      let zr = f .no-roots (omega arith) in
-      built (budget-kept (o .0))
-      (gain-bare 1 (p .table .names) (omega arith))
-      (empty (rowAt s w) (rowAt (set s (p .lines + 1) to) w) (1 + p .table .names) (1 + (p .table .names + 1)) (p .table .entries) ze)
-      (ap bare (empty (rowAt s w) (rowAt (set s (p .lines + 1) to) w) (1 + p .table .names + p .table .entries) (1 + (p .table .names + 1) + p .table .entries) (p .table .pairs) zp))
-      (ap bare (empty (rowAt s w) (rowAt (set s (p .lines + 1) to) w) (1 + p .table .names + p .table .entries + p .table .pairs) (1 + (p .table .names + 1) + p .table .entries + p .table .pairs) (p .table .marks) zm))
-      (ap bare (empty (rowAt s w) (rowAt (set s (p .lines + 1) to) w) (1 + p .table .names + p .table .entries + p .table .pairs + p .table .marks) (1 + (p .table .names + 1) + p .table .entries + p .table .pairs + p .table .marks) (p .table .roots) zr))
-  grown (suc (suc zero)) h =
-      let o = begun-in-order (p .stage) 1 h in
-      let b = f .begun (o .0) in
-      let le = o .1 in
-      let zp = f .no-pairs (omega arith) in
-      let zm = f .no-marks (omega arith) in
-      let zr = f .no-roots (omega arith) in
-      built (budget-kept (o .0))
-      (ap bare (keep 1 (p .table .names) (omega arith)))
-      (gain (1 + p .table .names) (p .table .entries) (omega arith))
-      (ap bare (empty (rowAt s w) (rowAt (set s (p .lines + 1) to) w) (1 + p .table .names + p .table .entries) (1 + p .table .names + (p .table .entries + 1)) (p .table .pairs) zp))
-      (ap bare (empty (rowAt s w) (rowAt (set s (p .lines + 1) to) w) (1 + p .table .names + p .table .entries + p .table .pairs) (1 + p .table .names + (p .table .entries + 1) + p .table .pairs) (p .table .marks) zm))
-      (ap bare (empty (rowAt s w) (rowAt (set s (p .lines + 1) to) w) (1 + p .table .names + p .table .entries + p .table .pairs + p .table .marks) (1 + p .table .names + (p .table .entries + 1) + p .table .pairs + p .table .marks) (p .table .roots) zr))
-  grown (suc (suc (suc zero))) h =
-      let o = begun-in-order (p .stage) 2 h in
-      let b = f .begun (o .0) in
-      let le = o .1 in
-      let zm = f .no-marks (omega arith) in
-      let zr = f .no-roots (omega arith) in
-      built (budget-kept (o .0))
-      (ap bare (keep 1 (p .table .names) (omega arith)))
-      (keep (1 + p .table .names) (p .table .entries) (omega arith))
-      (gain-bare (1 + p .table .names + p .table .entries) (p .table .pairs) (omega arith))
-      (ap bare (empty (rowAt s w) (rowAt (set s (p .lines + 1) to) w) (1 + p .table .names + p .table .entries + p .table .pairs) (1 + p .table .names + p .table .entries + (p .table .pairs + 1)) (p .table .marks) zm))
-      (ap bare (empty (rowAt s w) (rowAt (set s (p .lines + 1) to) w) (1 + p .table .names + p .table .entries + p .table .pairs + p .table .marks) (1 + p .table .names + p .table .entries + (p .table .pairs + 1) + p .table .marks) (p .table .roots) zr))
-  grown (suc (suc (suc (suc zero)))) h =
-      let o = begun-in-order (p .stage) 3 h in
-      let b = f .begun (o .0) in
-      let le = o .1 in
-      let zr = f .no-roots (omega arith) in
-      built (budget-kept (o .0))
-      (ap bare (keep 1 (p .table .names) (omega arith)))
-      (keep (1 + p .table .names) (p .table .entries) (omega arith))
-      (ap bare (keep (1 + p .table .names + p .table .entries) (p .table .pairs) (omega arith)))
-      (gain-bare (1 + p .table .names + p .table .entries + p .table .pairs) (p .table .marks) (omega arith))
-      (ap bare (empty (rowAt s w) (rowAt (set s (p .lines + 1) to) w) (1 + p .table .names + p .table .entries + p .table .pairs + p .table .marks) (1 + p .table .names + p .table .entries + p .table .pairs + (p .table .marks + 1)) (p .table .roots) zr))
-  grown (suc (suc (suc (suc (suc n))))) h = late (suc (suc (suc (suc (suc n))))) (omega arith) (begun-in-order (p .stage) (suc (suc (suc (suc n)))) h .0)
+    -- the table that the rows are, with one row more
+    pub grown : (sec : ℕ) → inOrder (p .stage) sec ≡ true → addRow (tableAt (budgetBy (p .stage) w) (p .table) w) sec (span w (p .top) to) ≡ tableAt (budgetBy (stageAfter sec) (noted w (p .lines + 1) to)) (countRow (p .table) sec) (noted w (p .lines + 1) to)
+    grown zero h =
+        let o : p .stage ≡ 0 = ⊎-elim (λ q. q .0) (λ q. omega (arith, q .1)) (in-order (p .stage) 0 h) in
+        let z = f .unbegun o in
+        let first : span w (p .top) to ≡ rowAt (noted w (p .lines + 1) to) 0 = sym new-row ∙ ap (rowAt (noted w (p .lines + 1) to)) z in
+        built (ap (λ (r : List ℕ). cell r 1) first)
+        (ap bare (empty (rowAt w) (rowAt (noted w (p .lines + 1) to)) 1 1 (p .table .names) (f .no-names (omega arith))))
+        (empty (rowAt w) (rowAt (noted w (p .lines + 1) to)) (1 + p .table .names) (1 + p .table .names) (p .table .entries) (f .no-entries (omega arith)))
+        (ap bare (empty (rowAt w) (rowAt (noted w (p .lines + 1) to)) (1 + p .table .names + p .table .entries) (1 + p .table .names + p .table .entries) (p .table .pairs) (f .no-pairs (omega arith))))
+        (ap bare (empty (rowAt w) (rowAt (noted w (p .lines + 1) to)) (1 + p .table .names + p .table .entries + p .table .pairs) (1 + p .table .names + p .table .entries + p .table .pairs) (p .table .marks) (f .no-marks (omega arith))))
+        (ap bare (empty (rowAt w) (rowAt (noted w (p .lines + 1) to)) (1 + p .table .names + p .table .entries + p .table .pairs + p .table .marks) (1 + p .table .names + p .table .entries + p .table .pairs + p .table .marks) (p .table .roots) (f .no-roots (omega arith))))
+    grown (suc zero) h =
+        let o = begun-in-order (p .stage) 0 h in
+        let b = f .begun (o .0) in
+        let le = o .1 in
+        let ze = f .no-entries (omega arith) in
+        let zp = f .no-pairs (omega arith) in
+        let zm = f .no-marks (omega arith) in
+        let zr = f .no-roots (omega arith) in
+        built (budget-kept (o .0))
+        (gain-bare 1 (p .table .names) (omega arith))
+        (empty (rowAt w) (rowAt (noted w (p .lines + 1) to)) (1 + p .table .names) (1 + (p .table .names + 1)) (p .table .entries) ze)
+        (ap bare (empty (rowAt w) (rowAt (noted w (p .lines + 1) to)) (1 + p .table .names + p .table .entries) (1 + (p .table .names + 1) + p .table .entries) (p .table .pairs) zp))
+        (ap bare (empty (rowAt w) (rowAt (noted w (p .lines + 1) to)) (1 + p .table .names + p .table .entries + p .table .pairs) (1 + (p .table .names + 1) + p .table .entries + p .table .pairs) (p .table .marks) zm))
+        (ap bare (empty (rowAt w) (rowAt (noted w (p .lines + 1) to)) (1 + p .table .names + p .table .entries + p .table .pairs + p .table .marks) (1 + (p .table .names + 1) + p .table .entries + p .table .pairs + p .table .marks) (p .table .roots) zr))
+    grown (suc (suc zero)) h =
+        let o = begun-in-order (p .stage) 1 h in
+        let b = f .begun (o .0) in
+        let le = o .1 in
+        let zp = f .no-pairs (omega arith) in
+        let zm = f .no-marks (omega arith) in
+        let zr = f .no-roots (omega arith) in
+        built (budget-kept (o .0))
+        (ap bare (keep 1 (p .table .names) (omega arith)))
+        (gain (1 + p .table .names) (p .table .entries) (omega arith))
+        (ap bare (empty (rowAt w) (rowAt (noted w (p .lines + 1) to)) (1 + p .table .names + p .table .entries) (1 + p .table .names + (p .table .entries + 1)) (p .table .pairs) zp))
+        (ap bare (empty (rowAt w) (rowAt (noted w (p .lines + 1) to)) (1 + p .table .names + p .table .entries + p .table .pairs) (1 + p .table .names + (p .table .entries + 1) + p .table .pairs) (p .table .marks) zm))
+        (ap bare (empty (rowAt w) (rowAt (noted w (p .lines + 1) to)) (1 + p .table .names + p .table .entries + p .table .pairs + p .table .marks) (1 + p .table .names + (p .table .entries + 1) + p .table .pairs + p .table .marks) (p .table .roots) zr))
+    grown (suc (suc (suc zero))) h =
+        let o = begun-in-order (p .stage) 2 h in
+        let b = f .begun (o .0) in
+        let le = o .1 in
+        let zm = f .no-marks (omega arith) in
+        let zr = f .no-roots (omega arith) in
+        built (budget-kept (o .0))
+        (ap bare (keep 1 (p .table .names) (omega arith)))
+        (keep (1 + p .table .names) (p .table .entries) (omega arith))
+        (gain-bare (1 + p .table .names + p .table .entries) (p .table .pairs) (omega arith))
+        (ap bare (empty (rowAt w) (rowAt (noted w (p .lines + 1) to)) (1 + p .table .names + p .table .entries + p .table .pairs) (1 + p .table .names + p .table .entries + (p .table .pairs + 1)) (p .table .marks) zm))
+        (ap bare (empty (rowAt w) (rowAt (noted w (p .lines + 1) to)) (1 + p .table .names + p .table .entries + p .table .pairs + p .table .marks) (1 + p .table .names + p .table .entries + (p .table .pairs + 1) + p .table .marks) (p .table .roots) zr))
+    grown (suc (suc (suc (suc zero)))) h =
+        let o = begun-in-order (p .stage) 3 h in
+        let b = f .begun (o .0) in
+        let le = o .1 in
+        let zr = f .no-roots (omega arith) in
+        built (budget-kept (o .0))
+        (ap bare (keep 1 (p .table .names) (omega arith)))
+        (keep (1 + p .table .names) (p .table .entries) (omega arith))
+        (ap bare (keep (1 + p .table .names + p .table .entries) (p .table .pairs) (omega arith)))
+        (gain-bare (1 + p .table .names + p .table .entries + p .table .pairs) (p .table .marks) (omega arith))
+        (ap bare (empty (rowAt w) (rowAt (noted w (p .lines + 1) to)) (1 + p .table .names + p .table .entries + p .table .pairs + p .table .marks) (1 + p .table .names + p .table .entries + p .table .pairs + (p .table .marks + 1)) (p .table .roots) zr))
+    grown (suc (suc (suc (suc (suc n))))) h = late (suc (suc (suc (suc (suc n))))) (omega arith) (begun-in-order (p .stage) (suc (suc (suc (suc n)))) h .0)
 
 -- the counts, with one row more
 module _ (p : Progress) (f : Fine p) (x to : ℕ) where
   late-counts : (sec : ℕ) → 5 ≤ sec → advanceBy p sec x to ≡ record { stage = sec; lines = p .lines + 1; top = to; ids = p .ids + x; table = record { names = p .table .names; entries = p .table .entries; pairs = p .table .pairs; marks = p .table .marks; roots = p .table .roots + 1 } }
   late-counts sec five = simp (ne-eqb sec 0 (λ e. omega arith), ne-eqb sec 1 (λ e. omega arith), ne-eqb sec 2 (λ e. omega arith), ne-eqb sec 3 (λ e. omega arith), ne-eqb sec 4 (λ e. omega arith))
 
-  pub fine-grown : (sec : ℕ) → inOrder (p .stage) sec ≡ true → Few (advanceBy p sec x to .table) → p .ids + x ≤ mostIds → to ≤ 65536 → Fine (advanceBy p sec x to)
+  pub fine-grown : (sec : ℕ) → inOrder (p .stage) sec ≡ true → Few (advanceBy p sec x to .table) → p .ids + x ≤ mostIds → to ≤ tableLength → Fine (advanceBy p sec x to)
   fine-grown zero h few ids low =
       let o : p .stage ≡ 0 = ⊎-elim (λ q. q .0) (λ q. omega (arith, q .1)) (in-order (p .stage) 0 h) in
       let z = f .unbegun o in
@@ -199,16 +213,17 @@ module _ (p : Progress) (f : Fine p) (x to : ℕ) where
       (record { few = g; few-ids = ids; low = low; few-lines = omega arith; unbegun = λ e. omega arith; begun = λ e. omega arith; no-names = λ e. omega arith; no-entries = λ e. omega arith; no-pairs = λ e. omega arith; no-marks = λ e. omega arith; no-roots = λ e. omega arith })
 
 -- the places, with one row more
-module _ (p : Progress) (s : List ℕ) (to : ℕ) (l : Layout p s) (fits : p .lines + 1 < length s) (up : p .top ≤ to) (q : Progress) (lines : q .lines ≡ p .lines + 1) (top : q .top ≡ to) where
-  same : (i : ℕ) → i ≤ p .lines → cell (set s (p .lines + 1) to) i ≡ cell s i
-  same i h = getD-set-other s (p .lines + 1) i to 0 (omega arith)
+module _ (p : Progress) (w : List ℕ) (to : ℕ) (l : Layout p w) (few : p .lines + 1 ≤ mostLines) (room : tableLength ≤ length w) (up : p .top ≤ to) (q : Progress) (lines : q .lines ≡ p .lines + 1) (top : q .top ≡ to) where
+  same : (i : ℕ) → i ≤ p .lines → beginAt (noted w (p .lines + 1) to) i ≡ beginAt w i
+  same = old p w to l few room
 
-  last : (i : ℕ) → i ≡ p .lines + 1 → cell (set s (p .lines + 1) to) i ≡ to
-  last i e = ap (cell (set s (p .lines + 1) to)) e ∙ getD-set-same s (p .lines + 1) to 0 fits
+  last : (i : ℕ) → i ≡ p .lines + 1 → beginAt (noted w (p .lines + 1) to) i ≡ to
+  last i e = ap (beginAt (noted w (p .lines + 1) to)) e ∙ new p w to l few room
 
-  pub laid-grown : Layout q (set s (p .lines + 1) to)
+  pub laid-grown : Layout q (noted w (p .lines + 1) to)
   laid-grown = record {
     ends = last (q .lines) lines ∙ sym top;
-    order = λ i h. ⊎-elim (λ e. let a = same i (omega arith) in let b = last (i + 1) (omega arith) in let c = ap (cell s) e in omega (arith, l .ends)) (λ lt. let a = same i (omega arith) in let b = same (i + 1) (omega arith) in omega (arith, l .order i lt)) (let le : i ≤ p .lines = omega arith in eq-or-lt-of-le le);
+    order = λ i h. ⊎-elim (λ e. let a = same i (omega arith) in let b = last (i + 1) (omega arith) in let c = ap (beginAt w) e in omega (arith, l .ends)) (λ lt. let a = same i (omega arith) in let b = same (i + 1) (omega arith) in omega (arith, l .order i lt)) (let le : i ≤ p .lines = omega arith in eq-or-lt-of-le le);
+    behind = λ i h. ⊎-elim (λ e. let a = last i e in omega (arith, l .behind (p .lines) (omega arith), l .ends)) (λ lt. let a = same i (omega arith) in omega (arith, l .behind i (omega arith))) (let le : i ≤ p .lines + 1 = omega arith in eq-or-lt-of-le le);
     within = λ i h. ⊎-elim (λ e. let a = last i e in omega arith) (λ lt. let a = same i (omega arith) in omega (arith, l .within i (omega arith))) (let le : i ≤ p .lines + 1 = omega arith in eq-or-lt-of-le le);
   }

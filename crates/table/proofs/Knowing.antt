@@ -12,9 +12,9 @@ use Rattle.rules.specs.Plain.{both}
 use Rattle.rules.specs.Table.{Entry, var, attrAt, attrKids, fieldTypes, fieldKeys, dynIds, entryOf, kids, allBelow, inRange, Result, accepted, refused, known}
 use Rattle.text.specs.Reads.{span}
 use Rattle.table.specs.declared.Table.{Table}
-use Rattle.table.specs.declared.Places.{Places}
+use Rattle.table.specs.declared.rows.Places.{Places}
 use Rattle.table.specs.declared.Answer.the-variants.{Accepted, Refused}
-use Rattle.table.specs.Rows.{At, every, Below, PlacedIn, Placed, VarKnown, SetKnown, KeysKnown, NamedKnown, PlainKnown, EntryKnown, rowAt, bare, unless, EntriesKnown, RootsKnown}
+use Rattle.table.specs.Rows.{beginAt, Begin, At, every, Below, PlacedIn, Placed, VarKnown, SetKnown, KeysKnown, NamedKnown, PlainKnown, EntryKnown, rowAt, bare, unless, EntriesKnown, RootsKnown}
 use Rattle.table.proofs.Entries.{part-every, entryBy, by-kind, poor, set-keys, set-types, set-optional, set-dyn}
 
 both-true : (b : Bool) → both b (λ _. true) ≡ b
@@ -131,48 +131,48 @@ module _ {w : List ℕ} {from to n names kind : ℕ} {b : Bool} (k : At w from t
     entry-set-no h = record { is = sym (set-range w from to n names kind b k e x false h) }
 
 -- rows tested one by one
-known-none : (P : List ℕ → Bool) (s w : List ℕ) (k a m : ℕ) → m ≡ 0 → known P k (run (rowAt s w) a m) ≡ accepted tt
-known-none P s w k a m e = ap (λ (n : ℕ). known P k (run (rowAt s w) a n)) e
+known-none : (P : List ℕ → Bool) (w : List ℕ) (k a m : ℕ) → m ≡ 0 → known P k (run (rowAt w) a m) ≡ accepted tt
+known-none P w k a m e = ap (λ (n : ℕ). known P k (run (rowAt w) a n)) e
 
-known-next : (P : List ℕ → Bool) (s w : List ℕ) (k a m n : ℕ) (b : Bool) → m ≡ suc n → b ≡ P (rowAt s w a) → known P k (run (rowAt s w) a m) ≡ if b (λ _. known P (k + 1) (run (rowAt s w) (a + 1) n)) (λ _. refused 3 k)
-known-next P s w k a m n b e h =
-    ap (λ (n : ℕ). known P k (run (rowAt s w) a n)) e
-    ∙ ap₂ {C = Result (Unit {0})} (λ (i j : ℕ). if (P (rowAt s w a)) (λ _. known P i (run (rowAt s w) j n)) (λ _. refused 3 k)) (sym (add-one k)) (sym (add-one a))
-    ∙ ap (λ (c : Bool). if c (λ _. known P (k + 1) (run (rowAt s w) (a + 1) n)) (λ _. refused 3 k)) (sym h)
+known-next : (P : List ℕ → Bool) (w : List ℕ) (k a m n : ℕ) (b : Bool) → m ≡ suc n → b ≡ P (rowAt w a) → known P k (run (rowAt w) a m) ≡ if b (λ _. known P (k + 1) (run (rowAt w) (a + 1) n)) (λ _. refused 3 k)
+known-next P w k a m n b e h =
+    ap (λ (n : ℕ). known P k (run (rowAt w) a n)) e
+    ∙ ap₂ {C = Result (Unit {0})} (λ (i j : ℕ). if (P (rowAt w a)) (λ _. known P i (run (rowAt w) j n)) (λ _. refused 3 k)) (sym (add-one k)) (sym (add-one a))
+    ∙ ap (λ (c : Bool). if c (λ _. known P (k + 1) (run (rowAt w) (a + 1) n)) (λ _. refused 3 k)) (sym h)
 
 -- the entries from i on
 abbrev pub entryTest : Table → List ℕ → Bool
 entryTest t row = inRange (t .entries) (t .names) (entryOf row)
 
-pub record Entries (s w : List ℕ) (t : Table) (i : ℕ) : Type 0 where
-  pub is : known (entryTest t) (2 + t .names + i) (run (rowAt s w) (1 + t .names + i) (t .entries - i)) ≡ known (entryTest t) (2 + t .names) (run (rowAt s w) (1 + t .names) (t .entries))
+pub record Entries (w : List ℕ) (t : Table) (i : ℕ) : Type 0 where
+  pub is : known (entryTest t) (2 + t .names + i) (run (rowAt w) (1 + t .names + i) (t .entries - i)) ≡ known (entryTest t) (2 + t .names) (run (rowAt w) (1 + t .names) (t .entries))
 
-pub entries-start : {s w : List ℕ} {t : Table} → Entries s w t 0
-entries-start {s} {w} {t} =
+pub entries-start : {w : List ℕ} {t : Table} → Entries w t 0
+entries-start {w} {t} =
     let a : 2 + t .names + 0 ≡ 2 + t .names = omega arith in
     let b : 1 + t .names + 0 ≡ 1 + t .names = omega arith in
     let c : t .entries - 0 ≡ t .entries = omega arith in
-    record { is = ap (λ (k : ℕ). known (entryTest t) k (run (rowAt s w) (1 + t .names + 0) (t .entries - 0))) a ∙ ap₂ {C = Result (Unit {0})} (λ (x y : ℕ). known (entryTest t) (2 + t .names) (run (rowAt s w) x y)) b c }
+    record { is = ap (λ (k : ℕ). known (entryTest t) k (run (rowAt w) (1 + t .names + 0) (t .entries - 0))) a ∙ ap₂ {C = Result (Unit {0})} (λ (x y : ℕ). known (entryTest t) (2 + t .names) (run (rowAt w) x y)) b c }
 
-module _ {s w : List ℕ} {t : Table} {i : ℕ} (inv : Entries s w t i) where
-  pub entries-done : t .entries ≤ i → EntriesKnown s w t (Accepted t)
-  entries-done h = record { is = ap (λ (m : Result (Unit {0})). unless m t s w) (sym (known-none (entryTest t) s w (2 + t .names + i) (1 + t .names + i) (t .entries - i) (omega arith)) ∙ inv .is) }
+module _ {w : List ℕ} {t : Table} {i : ℕ} (inv : Entries w t i) where
+  pub entries-done : t .entries ≤ i → EntriesKnown w t (Accepted t)
+  entries-done h = record { is = ap (λ (m : Result (Unit {0})). unless m t w) (sym (known-none (entryTest t) w (2 + t .names + i) (1 + t .names + i) (t .entries - i) (omega arith)) ∙ inv .is) }
 
-  module _ {a e : ℕ} {b : Bool} (lt : i < t .entries) (f : a ≡ cell s (1 + t .names + i)) (g : e ≡ cell s (2 + t .names + i)) (h : EntryKnown w a e (t .entries) (t .names) b) where
-    turn : (c : Bool) → b ≡ c → if c (λ _. known (entryTest t) (2 + t .names + i + 1) (run (rowAt s w) (1 + t .names + i + 1) (t .entries - (i + 1)))) (λ _. refused 3 (2 + t .names + i)) ≡ known (entryTest t) (2 + t .names) (run (rowAt s w) (1 + t .names) (t .entries))
+  module _ {a e : ℕ} {b : Bool} (lt : i < t .entries) (f : Begin w (1 + t .names + i) a) (g : Begin w (2 + t .names + i) e) (h : EntryKnown w a e (t .entries) (t .names) b) where
+    turn : (c : Bool) → b ≡ c → if c (λ _. known (entryTest t) (2 + t .names + i + 1) (run (rowAt w) (1 + t .names + i + 1) (t .entries - (i + 1)))) (λ _. refused 3 (2 + t .names + i)) ≡ known (entryTest t) (2 + t .names) (run (rowAt w) (1 + t .names) (t .entries))
     turn c q =
         let z : 2 + t .names + i ≡ 1 + t .names + i + 1 = omega arith in
-        sym (known-next (entryTest t) s w (2 + t .names + i) (1 + t .names + i) (t .entries - i) (t .entries - (i + 1)) c (omega arith) (sym q ∙ h .is ∙ ap₂ {C = Bool} (λ (x y : ℕ). entryTest t (span w x y)) f (g ∙ ap (cell s) z)))
+        sym (known-next (entryTest t) w (2 + t .names + i) (1 + t .names + i) (t .entries - i) (t .entries - (i + 1)) c (omega arith) (sym q ∙ h .is ∙ ap₂ {C = Bool} (λ (x y : ℕ). entryTest t (span w x y)) (f .is) (g .is ∙ ap (beginAt w) z)))
         ∙ inv .is
 
-    pub entries-no : b ≡ false → EntriesKnown s w t (Refused 3 (2 + t .names + i))
-    entries-no q = record { is = ap (λ (m : Result (Unit {0})). unless m t s w) (turn false q) }
+    pub entries-no : b ≡ false → EntriesKnown w t (Refused 3 (2 + t .names + i))
+    entries-no q = record { is = ap (λ (m : Result (Unit {0})). unless m t w) (turn false q) }
 
-    pub entries-more : b ≡ true → Entries s w t (i + 1)
+    pub entries-more : b ≡ true → Entries w t (i + 1)
     entries-more q =
         let x : 2 + t .names + (i + 1) ≡ 2 + t .names + i + 1 = omega arith in
         let y : 1 + t .names + (i + 1) ≡ 1 + t .names + i + 1 = omega arith in
-        record { is = ap₂ {C = Result (Unit {0})} (λ (k j : ℕ). known (entryTest t) k (run (rowAt s w) j (t .entries - (i + 1)))) x y ∙ turn true q }
+        record { is = ap₂ {C = Result (Unit {0})} (λ (k j : ℕ). known (entryTest t) k (run (rowAt w) j (t .entries - (i + 1)))) x y ∙ turn true q }
 
 -- the roots from i on
 abbrev pub rootTest : Table → List ℕ → Bool
@@ -203,39 +203,39 @@ if-same false = refl
 root-tested : (t : Table) (row : List ℕ) → allBelow (t .entries) (cell row 1 ∷ []) ≡ wholeTest t row
 root-tested t row = if-same (ltb (cell row 1) (t .entries)) ∙ ap (λ (x : ℕ). ltb x (t .entries)) (sym (second row))
 
-pub record Roots (s w : List ℕ) (t : Table) (i : ℕ) : Type 0 where
-  pub is : known (wholeTest t) (rootRow t + i + 1) (run (rowAt s w) (rootRow t + i) (t .roots - i)) ≡ known (rootTest t) (2 + t .names + t .entries + t .pairs + t .marks) (bare (run (rowAt s w) (rootRow t) (t .roots)))
+pub record Roots (w : List ℕ) (t : Table) (i : ℕ) : Type 0 where
+  pub is : known (wholeTest t) (rootRow t + i + 1) (run (rowAt w) (rootRow t + i) (t .roots - i)) ≡ known (rootTest t) (2 + t .names + t .entries + t .pairs + t .marks) (bare (run (rowAt w) (rootRow t) (t .roots)))
 
-pub roots-start : {s w : List ℕ} {t : Table} → Roots s w t 0
-roots-start {s} {w} {t} =
+pub roots-start : {w : List ℕ} {t : Table} → Roots w t 0
+roots-start {w} {t} =
     let a : rootRow t + 0 + 1 ≡ 2 + t .names + t .entries + t .pairs + t .marks = omega arith in
     let b : rootRow t + 0 ≡ rootRow t = omega arith in
     let c : t .roots - 0 ≡ t .roots = omega arith in
     record {
       is =
-          ap (λ (k : ℕ). known (wholeTest t) k (run (rowAt s w) (rootRow t + 0) (t .roots - 0))) a
-          ∙ ap₂ {C = Result (Unit {0})} (λ (x y : ℕ). known (wholeTest t) (2 + t .names + t .entries + t .pairs + t .marks) (run (rowAt s w) x y)) b c
-          ∙ sym (known-bare (rootTest t) (2 + t .names + t .entries + t .pairs + t .marks) (run (rowAt s w) (rootRow t) (t .roots)));
+          ap (λ (k : ℕ). known (wholeTest t) k (run (rowAt w) (rootRow t + 0) (t .roots - 0))) a
+          ∙ ap₂ {C = Result (Unit {0})} (λ (x y : ℕ). known (wholeTest t) (2 + t .names + t .entries + t .pairs + t .marks) (run (rowAt w) x y)) b c
+          ∙ sym (known-bare (rootTest t) (2 + t .names + t .entries + t .pairs + t .marks) (run (rowAt w) (rootRow t) (t .roots)));
     }
 
-module _ {s w : List ℕ} {t : Table} {i : ℕ} (inv : Roots s w t i) where
-  pub roots-done : t .roots ≤ i → RootsKnown s w t (Accepted t)
+module _ {w : List ℕ} {t : Table} {i : ℕ} (inv : Roots w t i) where
+  pub roots-done : t .roots ≤ i → RootsKnown w t (Accepted t)
   roots-done h = record {
-    is = ap (λ (m : Result (Unit {0})). unless m t s w) (sym (known-none (wholeTest t) s w (rootRow t + i + 1) (rootRow t + i) (t .roots - i) (omega arith)) ∙ inv .is);
+    is = ap (λ (m : Result (Unit {0})). unless m t w) (sym (known-none (wholeTest t) w (rootRow t + i + 1) (rootRow t + i) (t .roots - i) (omega arith)) ∙ inv .is);
     kept = refl;
   }
 
-  module _ {a e : ℕ} {b : Bool} (lt : i < t .roots) (f : a ≡ cell s (rootRow t + i)) (g : e ≡ cell s (rootRow t + i + 1)) (h : Below w a e 1 1 1 (t .entries) b) where
-    turn2 : (c : Bool) → b ≡ c → if c (λ _. known (wholeTest t) (rootRow t + i + 1 + 1) (run (rowAt s w) (rootRow t + i + 1) (t .roots - (i + 1)))) (λ _. refused 3 (rootRow t + i + 1)) ≡ known (rootTest t) (2 + t .names + t .entries + t .pairs + t .marks) (bare (run (rowAt s w) (rootRow t) (t .roots)))
+  module _ {a e : ℕ} {b : Bool} (lt : i < t .roots) (f : Begin w (rootRow t + i) a) (g : Begin w (rootRow t + i + 1) e) (h : Below w a e 1 1 1 (t .entries) b) where
+    turn2 : (c : Bool) → b ≡ c → if c (λ _. known (wholeTest t) (rootRow t + i + 1 + 1) (run (rowAt w) (rootRow t + i + 1) (t .roots - (i + 1)))) (λ _. refused 3 (rootRow t + i + 1)) ≡ known (rootTest t) (2 + t .names + t .entries + t .pairs + t .marks) (bare (run (rowAt w) (rootRow t) (t .roots)))
     turn2 c q =
-        sym (known-next (wholeTest t) s w (rootRow t + i + 1) (rootRow t + i) (t .roots - i) (t .roots - (i + 1)) c (omega arith) (sym q ∙ h .is ∙ root-tested t (span w a e) ∙ ap₂ {C = Bool} (λ (x y : ℕ). wholeTest t (span w x y)) f g))
+        sym (known-next (wholeTest t) w (rootRow t + i + 1) (rootRow t + i) (t .roots - i) (t .roots - (i + 1)) c (omega arith) (sym q ∙ h .is ∙ root-tested t (span w a e) ∙ ap₂ {C = Bool} (λ (x y : ℕ). wholeTest t (span w x y)) (f .is) (g .is)))
         ∙ inv .is
 
-    pub roots-no : b ≡ false → RootsKnown s w t (Refused 3 (rootRow t + i + 1))
-    roots-no q = record { is = ap (λ (m : Result (Unit {0})). unless m t s w) (turn2 false q); kept = tt }
+    pub roots-no : b ≡ false → RootsKnown w t (Refused 3 (rootRow t + i + 1))
+    roots-no q = record { is = ap (λ (m : Result (Unit {0})). unless m t w) (turn2 false q); kept = tt }
 
-    pub roots-more : b ≡ true → Roots s w t (i + 1)
+    pub roots-more : b ≡ true → Roots w t (i + 1)
     roots-more q =
         let x : rootRow t + (i + 1) + 1 ≡ rootRow t + i + 1 + 1 = omega arith in
         let y : rootRow t + (i + 1) ≡ rootRow t + i + 1 = omega arith in
-        record { is = ap₂ {C = Result (Unit {0})} (λ (k j : ℕ). known (wholeTest t) k (run (rowAt s w) j (t .roots - (i + 1)))) x y ∙ turn2 true q }
+        record { is = ap₂ {C = Result (Unit {0})} (λ (k j : ℕ). known (wholeTest t) k (run (rowAt w) j (t .roots - (i + 1)))) x y ∙ turn2 true q }

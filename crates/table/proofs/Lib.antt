@@ -1,10 +1,9 @@
--- Lemmas, from the cells up; callers cite Facts.
+-- Lemmas, from the cells up.
 pub mod Cells
 pub mod Entries
-pub mod Judging
+pub mod Verdicts
 pub mod Knowing
 pub mod Growing
 pub mod Admitting
 pub mod Lines
 pub mod Whole
-pub mod Facts

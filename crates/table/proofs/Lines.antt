@@ -1,14 +1,17 @@
 -- A line, and all lines: what the rows come to is what the rules say. Assumes nothing.
 use mathlib.Core.Path.{_≡_, refl, sym, ap, ap₂, _∙_, subst}
 use mathlib.Core.Bool.{Bool, true, false}
-use Prim.Native.Nat.{ℕ, suc, _+_, _-_, _*_, _≤_, _<_, _^_}
+use Prim.Native.Nat.{ℕ, suc, _+_, _-_, _≤_, _<_, _^_}
 use native.Mathlib.Omega.{arith}
 use native.Mathlib.Numerals.{add-one, lt-of-le-of-ne}
 use mathlib.Core.List.{List, [], _∷_, _++_}
 use lib.ListN.{length, set, length-set}
+use lib.Seq.{getD-set-other}
 use lib.Dec.{eqb}
 use borrow.Author.Tests.{eq-eqb, ne-eqb}
 use Rattle.cells.specs.Part.{cell, if}
+use Rattle.layout.specs.Layout.{rowsAt, tableWords, tableLength}
+use Rattle.rules.specs.Ceilings.{mostText, mostIds}
 use Rattle.rules.specs.Plain.{Maybe}
 use Rattle.rules.specs.Text.{cut, pieces}
 use Rattle.rules.specs.Table.{kinds, sectionOf, inOrder, rowWeight, add, frozenEntry, Reading, nothing, Taken, taken, fault, admit, inForm, step, then, at, begun, lines}
@@ -18,46 +21,51 @@ use Rattle.text.specs.declared.Got.the-variants.{Bad, To}
 use Rattle.text.specs.Reads.{span, Seek, FieldRoom, Ends, gotWords, Row}
 use Rattle.text.proofs.Spans.{span-none, span-next, span-whole}
 use Rattle.table.specs.declared.Table.{Table}
-use Rattle.table.specs.declared.Progress.{Progress}
+use Rattle.table.specs.declared.judging.Progress.{Progress}
 use Rattle.table.specs.declared.Answer.the-variants.{Accepted, Refused}
-use Rattle.table.specs.declared.Verdict.{Verdict}
-use Rattle.table.specs.declared.Verdict.the-variants.{Taken as TakenV, Fault}
-use Rattle.table.specs.Rows.{Few, countRow, overBy, ascendsBy, Fine, advanceBy, Admitted, Judged, tableFrom, readingOf, takenOf, Layout, Ready, Went, Goes, Lined, untouched, Unread, Begun, Lines}
+use Rattle.table.specs.declared.judging.Verdict.{Verdict}
+use Rattle.table.specs.declared.judging.Verdict.the-variants.{Taken as TakenV, Fault}
+use Rattle.table.specs.Rows.{mostLines, beginAt, Few, countRow, overBy, ascendsBy, Fine, advanceBy, Admitted, Judged, tableFrom, readingOf, takenOf, Layout, Ready, Went, Goes, Apart, Lined, untouched, Unread, Begun, Lines}
 use Rattle.table.proofs.Growing.{grown, fine-grown, laid-grown}
-use Rattle.table.proofs.Admitting.{reading-same, said, passed, admitted-by}
+use Rattle.table.proofs.Admitting.{reading-same, layout-same, said, passed, admitted-by}
 
-pub line-room : {text s w : List ℕ} {from to : ℕ} {p : Progress} → Ready text from to s w p → FieldRoom text from to w (p .top)
+-- what is written of a row stands behind the beginnings of rows
+row-apart : {text w w′ : List ℕ} {from to : ℕ} {p : Progress} {r : Got} → Ready text from to w p → Row kinds text from to (p .top) w w′ r → Apart w w′
+row-apart {p = p} h x = record {
+  same-length = x .wrote .above .same-length;
+  kept = λ k lt. x .wrote .above .below k (omega (arith, h .layout .behind (p .lines) (omega arith), h .layout .ends));
+}
+
+pub line-room : {text w : List ℕ} {from to : ℕ} {p : Progress} → Ready text from to w p → FieldRoom text from to w (p .top)
 line-room h = record { order = h .order; within = omega (arith, h .ended); short = h .short; room = omega (arith, h .room, h .low, h .ended, h .short, h .order) }
 
-module _ {text s w w′ : List ℕ} {from to : ℕ} {p : Progress} {r : Got} (h : Ready text from to s w p) (x : Row kinds text from to (p .top) w w′ r) where
-  pub line-bad : r ≡ Bad → Lined text from to p s w s w′ (Fault 1)
+module _ {text w w′ : List ℕ} {from to : ℕ} {p : Progress} {r : Got} (h : Ready text from to w p) (x : Row kinds text from to (p .top) w w′ r) where
+  pub line-bad : r ≡ Bad → Lined text from to p w w′ (Fault 1)
   unfolding step
   line-bad e = record {
-    is = ap (inForm (readingOf p s w)) (ap (gotWords (p .top) w′) (sym e) ∙ x .wrote .is);
+    is = ap (inForm (readingOf p w)) (ap (gotWords (p .top) w′) (sym e) ∙ x .wrote .is);
     goes = tt;
-    long-s = refl;
-    long-w = x .wrote .above .same-length;
+    apart = row-apart h x;
   }
 
 -- what the rules say of a line, by its row
-step-is : (text s w w′ : List ℕ) (from to : ℕ) (p : Progress) (r : Got) (t : ℕ) → Ready text from to s w p → Row kinds text from to (p .top) w w′ r → r ≡ To t → admit (readingOf p s w′) (sectionOf (cell (span w′ (p .top) t) 0)) (span w′ (p .top) t) ≡ step (readingOf p s w) (span text from to)
+step-is : (text w w′ : List ℕ) (from to : ℕ) (p : Progress) (r : Got) (t : ℕ) → Ready text from to w p → Row kinds text from to (p .top) w w′ r → r ≡ To t → admit (readingOf p w′) (sectionOf (cell (span w′ (p .top) t) 0)) (span w′ (p .top) t) ≡ step (readingOf p w) (span text from to)
 unfolding step
-step-is text s w w′ from to p r t h x e =
-    ap₂ {C = Taken} (λ (q : Reading) (m : Maybe (List ℕ)). inForm q m) (sym (reading-same p s w w′ (h .fine) (h .layout) (x .wrote .above))) (ap (gotWords (p .top) w′) (sym e) ∙ x .wrote .is)
+step-is text w w′ from to p r t h x e =
+    ap₂ {C = Taken} (λ (q : Reading) (m : Maybe (List ℕ)). inForm q m) (sym (reading-same p w w′ (h .fine) (h .layout) (x .wrote .above))) (ap (gotWords (p .top) w′) (sym e) ∙ x .wrote .is)
 
-bounds : (text s w w′ : List ℕ) (from to : ℕ) (p : Progress) (r : Got) (t : ℕ) → Row kinds text from to (p .top) w w′ r → r ≡ To t → Ends (p .top) (to - from + 1) (To t)
-bounds text s w w′ from to p r t x e = subst (Ends (p .top) (to - from + 1)) e (x .wrote .ends)
+bounds : (text w w′ : List ℕ) (from to : ℕ) (p : Progress) (r : Got) (t : ℕ) → Row kinds text from to (p .top) w w′ r → r ≡ To t → Ends (p .top) (to - from + 1) (To t)
+bounds text w w′ from to p r t x e = subst (Ends (p .top) (to - from + 1)) e (x .wrote .ends)
 
-module _ {text s w w′ : List ℕ} {from to : ℕ} {p : Progress} {r : Got} {t : ℕ} {v : Verdict} (h : Ready text from to s w p) (x : Row kinds text from to (p .top) w w′ r) (e : r ≡ To t) (j : Judged p s w′ t v) where
-  pub line-fault : {k : ℕ} → v ≡ Fault k → Lined text from to p s w s w′ (Fault k)
+module _ {text w w′ : List ℕ} {from to : ℕ} {p : Progress} {r : Got} {t : ℕ} {v : Verdict} (h : Ready text from to w p) (x : Row kinds text from to (p .top) w w′ r) (e : r ≡ To t) (j : Judged p w′ t v) where
+  pub line-fault : {k : ℕ} → v ≡ Fault k → Lined text from to p w w′ (Fault k)
   line-fault {k} q = record {
     is =
-        ap (λ (o : Verdict). said o (add (readingOf p s w′) (sectionOf (cell (span w′ (p .top) t) 0)) (span w′ (p .top) t))) (sym q ∙ j .is)
-        ∙ admitted-by p s w′ t (h .fine) (h .layout) (sectionOf (cell (span w′ (p .top) t) 0))
-        ∙ step-is text s w w′ from to p r t h x e;
+        ap (λ (o : Verdict). said o (add (readingOf p w′) (sectionOf (cell (span w′ (p .top) t) 0)) (span w′ (p .top) t))) (sym q ∙ j .is)
+        ∙ admitted-by p w′ t (h .fine) (layout-same p w w′ (h .fine) (h .layout) (x .wrote .above)) (sectionOf (cell (span w′ (p .top) t) 0))
+        ∙ step-is text w w′ from to p r t h x e;
     goes = tt;
-    long-s = refl;
-    long-w = x .wrote .above .same-length;
+    apart = row-apart h x;
   }
 
   module _ {q : Progress} (g : v ≡ TakenV q) where
@@ -68,7 +76,7 @@ module _ {text s w w′ : List ℕ} {from to : ℕ} {p : Progress} {r : Got} {t 
     how =
         passed (inOrder (p .stage) (sectionOf (cell (span w′ (p .top) t) 0)))
         (overBy (countRow (p .table) (sectionOf (cell (span w′ (p .top) t) 0))) (p .ids + rowWeight (sectionOf (cell (span w′ (p .top) t) 0)) (span w′ (p .top) t)) (sectionOf (cell (span w′ (p .top) t) 0)) ((t - p .top) - 1))
-        (ascendsBy p s w′ t (sectionOf (cell (span w′ (p .top) t) 0)))
+        (ascendsBy p w′ t (sectionOf (cell (span w′ (p .top) t) 0)))
         (eqb (cell (span w′ (p .top) t) 0) frozenEntry)
         q
         (advanceBy p (sectionOf (cell (span w′ (p .top) t) 0)) (rowWeight (sectionOf (cell (span w′ (p .top) t) 0)) (span w′ (p .top) t)) t)
@@ -76,44 +84,48 @@ module _ {text s w w′ : List ℕ} {from to : ℕ} {p : Progress} {r : Got} {t 
 
     fine : Fine q
     fine =
-        let b = bounds text s w w′ from to p r t x e in
-        let ids : p .ids + rowWeight (sectionOf (cell (span w′ (p .top) t) 0)) (span w′ (p .top) t) ≤ 8192 = subst (λ (n : Progress). n .ids ≤ 8192) (how .1) (told .few-ids) in
+        let b = bounds text w w′ from to p r t x e in
+        let ids : p .ids + rowWeight (sectionOf (cell (span w′ (p .top) t) 0)) (span w′ (p .top) t) ≤ mostIds = subst (λ (n : Progress). n .ids ≤ mostIds) (how .1) (told .few-ids) in
         subst Fine (sym (how .1))
         (fine-grown p (h .fine) (rowWeight (sectionOf (cell (span w′ (p .top) t) 0)) (span w′ (p .top) t)) t (sectionOf (cell (span w′ (p .top) t) 0)) (how .0) (subst (λ (n : Progress). Few (n .table)) (how .1) (told .few)) ids (omega (arith, b .1, h .low, h .ended, h .short, h .order)))
 
     pub line-small : t < 2 ^ 32
-    line-small = let b = bounds text s w w′ from to p r t x e in omega (arith, b .1, h .low, h .ended, h .short, h .order)
+    line-small = let b = bounds text w w′ from to p r t x e in omega (arith, b .1, h .low, h .ended, h .short, h .order)
 
-    pub line-place : q .lines < length s
-    line-place = omega (arith, fine .few-lines, h .places)
+    few-lines : p .lines + 1 ≤ mostLines
+    few-lines = omega (arith, fine .few-lines, told .lines)
 
-    pub line-near : q .lines * 4 < 2 ^ 64
+    room : tableLength ≤ length w′
+    room = omega (arith, h .room, x .wrote .above .same-length)
+
+    pub line-near : rowsAt + q .lines < 2 ^ 64
     line-near = omega (arith, fine .few-lines)
 
-    pub line-taken : Lined text from to p s w (set s (q .lines) t) w′ (TakenV q)
-    line-taken =
+    pub line-taken : {w″ : List ℕ} → w″ ≡ set w′ (rowsAt + q .lines) t → Lined text from to p w w″ (TakenV q)
+    line-taken {w″} put =
         let lines-too : q .lines ≡ p .lines + 1 = told .lines in
-        let b = bounds text s w w′ from to p r t x e in
-        let place = line-place in
-        let fits : p .lines + 1 < length s = omega arith in
-        let there : set s (q .lines) t ≡ set s (p .lines + 1) t = ap (λ (n : ℕ). set s n t) lines-too in
+        let b = bounds text w w′ from to p r t x e in
+        let layout : Layout p w′ = layout-same p w w′ (h .fine) (h .layout) (x .wrote .above) in
+        let there : w″ ≡ set w′ (rowsAt + (p .lines + 1)) t = put ∙ ap (λ (n : ℕ). set w′ (rowsAt + n) t) lines-too in
         record {
           is =
-              ap (λ (m : List ℕ). taken (readingOf q m w′)) there
-              ∙ ap (λ (n : Progress). taken (readingOf n (set s (p .lines + 1) t) w′)) (how .1)
+              ap (λ (m : List ℕ). taken (readingOf q m)) there
+              ∙ ap (λ (n : Progress). taken (readingOf n (set w′ (rowsAt + (p .lines + 1)) t))) (how .1)
               ∙ ap (λ (m : rules.Table). taken (record { stage = rules.stageAfter (sectionOf (cell (span w′ (p .top) t) 0)); ids = p .ids + rowWeight (sectionOf (cell (span w′ (p .top) t) 0)) (span w′ (p .top) t); table = m }))
-              (sym (grown p s w′ t (h .fine) (h .layout) fits (sectionOf (cell (span w′ (p .top) t) 0)) (how .0)))
-              ∙ ap (λ (o : Verdict). said o (add (readingOf p s w′) (sectionOf (cell (span w′ (p .top) t) 0)) (span w′ (p .top) t))) (sym g ∙ j .is)
-              ∙ admitted-by p s w′ t (h .fine) (h .layout) (sectionOf (cell (span w′ (p .top) t) 0))
-              ∙ step-is text s w w′ from to p r t h x e;
+              (sym (grown p w′ t layout few-lines room (h .fine) (sectionOf (cell (span w′ (p .top) t) 0)) (how .0)))
+              ∙ ap (λ (o : Verdict). said o (add (readingOf p w′) (sectionOf (cell (span w′ (p .top) t) 0)) (span w′ (p .top) t))) (sym g ∙ j .is)
+              ∙ admitted-by p w′ t (h .fine) layout (sectionOf (cell (span w′ (p .top) t) 0))
+              ∙ step-is text w w′ from to p r t h x e;
           goes = record {
             fine = fine;
-            layout = subst (Layout q) (sym there) (laid-grown p s t (h .layout) fits (b .0) q lines-too (told .top));
+            layout = subst (Layout q) (sym there) (laid-grown p w′ t layout few-lines room (b .0) q lines-too (told .top));
             low = omega (arith, b .1, h .low, h .order, told .top);
             lines = lines-too;
           };
-          long-s = length-set s (q .lines) t;
-          long-w = x .wrote .above .same-length;
+          apart = record {
+            same-length = ap length put ∙ length-set w′ (rowsAt + q .lines) t ∙ x .wrote .above .same-length;
+            kept = λ k lt. ap (λ (l : List ℕ). cell l k) put ∙ getD-set-other w′ (rowsAt + q .lines) k t 0 (omega arith) ∙ row-apart h x .kept k lt;
+          };
         }
 
 -- a cut is of some pieces
@@ -131,98 +143,88 @@ unfolding pieces
 lines-next k r l x = cut-some (λ (q : List (List ℕ)). lines k r (l ∷ q) ≡ then (at k (step r l)) (λ (z : Reading). lines (suc k) z q)) (λ p ps. refl) 10 [] x
 
 -- the lines read so far stand as rows; with what is left they are the whole
-pub record Walking (text s₀ w₀ s w : List ℕ) (from : ℕ) (p : Progress) : Type 0 where
+pub record Walking (text w₀ w : List ℕ) (from : ℕ) (p : Progress) : Type 0 where
   pub fine : Fine p
-  pub layout : Layout p s
-  pub low : p .top ≤ from
+  pub layout : Layout p w
+  pub low : p .top ≤ tableWords + from
   pub high : from ≤ length text
-  pub places : 5698 ≤ length s
-  pub room : 65536 ≤ length w
-  pub long-s : length s ≡ length s₀
-  pub long-w : length w ≡ length w₀
-  pub is : lines (p .lines + 1) (readingOf p s w) (pieces 10 (span text from (length text))) ≡ lines 1 nothing (pieces 10 text)
+  pub room : tableLength ≤ length w
+  pub apart : Apart w₀ w
+  pub is : lines (p .lines + 1) (readingOf p w) (pieces 10 (span text from (length text))) ≡ lines 1 nothing (pieces 10 text)
 
-start : (text s w : List ℕ) → Begun s w → Walking text s w s w 0 untouched
-start text s w h = record {
+start : (text w : List ℕ) → Begun w → Walking text w w 0 untouched
+start text w h = record {
   fine = record { few = record { names = omega arith; entries = omega arith; pairs = omega arith; marks = omega arith; roots = omega arith }; few-ids = omega arith; low = omega arith; few-lines = omega arith; unbegun = λ e. refl; begun = λ e. absurd (e refl); no-names = λ e. refl; no-entries = λ e. refl; no-pairs = λ e. refl; no-marks = λ e. refl; no-roots = λ e. refl };
-  layout = record { ends = h .none-yet; order = λ i lt. omega arith; within = λ i le. let e : i ≡ 0 = omega arith in let q = ap (cell s) e in omega (arith, h .none-yet) };
+  layout = record { ends = h .none-yet; order = λ i lt. omega arith; behind = λ i le. let e : i ≡ 0 = omega arith in let q = ap (beginAt w) e in omega (arith, h .none-yet); within = λ i le. let e : i ≡ 0 = omega arith in let q = ap (beginAt w) e in omega (arith, h .none-yet) };
   low = omega arith;
   high = omega arith;
-  places = h .places;
   room = h .room;
-  long-s = refl;
-  long-w = refl;
+  apart = record { same-length = refl; kept = λ k lt. refl };
   is = ap (λ (l : List ℕ). lines 1 nothing (pieces 10 l)) (span-whole text);
 }
 
-pub walk-start : {text s w : List ℕ} {p : Progress} → Begun s w → Unread p → Walking text s w s w 0 p
-walk-start {text} {s} {w} h e = subst (Walking text s w s w 0) (sym (e .is)) (start text s w h)
+pub walk-start : {text w : List ℕ} {p : Progress} → Begun w → Unread p → Walking text w w 0 p
+walk-start {text} {w} h e = subst (Walking text w w 0) (sym (e .is)) (start text w h)
 
-module _ {text s₀ w₀ s w : List ℕ} {from : ℕ} {p : Progress} (inv : Walking text s₀ w₀ s w from p) where
-  pub walk-lines : p .lines ≤ 5697
-  walk-lines = inv .fine .few-lines
-
-  ended : length text ≤ from → begun (readingOf p s w) (p .lines + 1) ≡ lines 1 nothing (pieces 10 text)
+module _ {text w₀ w : List ℕ} {from : ℕ} {p : Progress} (inv : Walking text w₀ w from p) where
+  ended : length text ≤ from → begun (readingOf p w) (p .lines + 1) ≡ lines 1 nothing (pieces 10 text)
   unfolding pieces
-  ended h = ap (λ (l : List ℕ). lines (p .lines + 1) (readingOf p s w) (pieces 10 l)) (sym (span-none text from (length text) h)) ∙ inv .is
+  ended h = ap (λ (l : List ℕ). lines (p .lines + 1) (readingOf p w) (pieces 10 l)) (sym (span-none text from (length text) h)) ∙ inv .is
 
-  pub walk-empty : length text ≤ from → p .stage ≡ 0 → Lines text s w (Refused 1 (p .lines + 1))
-  walk-empty h e = record { is = simp (eq-eqb (p .stage) 0 e) at (ended h); laid = tt }
+  pub walk-empty : length text ≤ from → p .stage ≡ 0 → Lines text w₀ w (Refused 1 (p .lines + 1))
+  walk-empty h e = record { is = simp (eq-eqb (p .stage) 0 e) at (ended h); laid = tt; apart = inv .apart }
 
-  pub walk-done : length text ≤ from → (p .stage ≡ 0 → ⊥) → Lines text s w (Accepted (p .table))
+  pub walk-done : length text ≤ from → (p .stage ≡ 0 → ⊥) → Lines text w₀ w (Accepted (p .table))
   unfolding tableFrom
   walk-done h e = record {
     is = simp (ne-eqb (p .stage) 0 e) at (ended h);
     laid =
         let b = inv .fine .begun e in
-        record { few = inv .fine .few; order = λ i lt. inv .layout .order i (omega arith); within = λ i le. omega (arith, inv .layout .within i (omega arith), inv .fine .low) };
+        record { few = inv .fine .few; order = λ i lt. inv .layout .order i (omega arith); behind = λ i le. inv .layout .behind i (omega arith); within = λ i le. omega (arith, inv .layout .within i (omega arith), inv .fine .low) };
+    apart = inv .apart;
   }
 
   module _ {e : ℕ} (lt : from < length text) (k : Seek text from (length text) 10 e) where
-    pub walk-unended : e ≡ length text → Lines text s w (Refused 1 (p .lines + 1))
+    pub walk-unended : e ≡ length text → Lines text w₀ w (Refused 1 (p .lines + 1))
     walk-unended h = record {
       is =
-          sym (ap (lines (p .lines + 1) (readingOf p s w)) (k .last h ∙ ap (λ (l : List ℕ). l ∷ []) (ap (span text from) h ∙ span-next text from (length text) lt)))
+          sym (ap (lines (p .lines + 1) (readingOf p w)) (k .last h ∙ ap (λ (l : List ℕ). l ∷ []) (ap (span text from) h ∙ span-next text from (length text) lt)))
           ∙ inv .is;
       laid = tt;
+      apart = inv .apart;
     }
 
     module _ (some-left : e ≡ length text → ⊥) where
       within : e < length text
       within = lt-of-le-of-ne (k .high) some-left
 
-      pub walk-ready : length text ≤ 65536 → Ready text from e s w p
-      walk-ready short = record { fine = inv .fine; layout = inv .layout; order = k .low; ended = within; short = short; low = inv .low; places = inv .places; room = inv .room }
+      pub walk-ready : length text ≤ mostText → Ready text from e w p
+      walk-ready short = record { fine = inv .fine; layout = inv .layout; order = k .low; ended = within; short = short; low = inv .low; room = inv .room }
 
-      module _ {s′ w′ : List ℕ} {v : Verdict} (d : Lined text from e p s w s′ w′ v) where
-        turn : (o : Taken) → takenOf v s′ w′ ≡ o → then (at (p .lines + 1) o) (λ (q : Reading). lines (suc (p .lines + 1)) q (pieces 10 (span text (e + 1) (length text)))) ≡ lines 1 nothing (pieces 10 text)
+      module _ {w′ : List ℕ} {v : Verdict} (d : Lined text from e p w w′ v) where
+        walk-apart : Apart w₀ w′
+        walk-apart = record { same-length = d .apart .same-length ∙ inv .apart .same-length; kept = λ i b. d .apart .kept i b ∙ inv .apart .kept i b }
+
+        turn : (o : Taken) → takenOf v w′ ≡ o → then (at (p .lines + 1) o) (λ (q : Reading). lines (suc (p .lines + 1)) q (pieces 10 (span text (e + 1) (length text)))) ≡ lines 1 nothing (pieces 10 text)
         turn o q =
             ap (λ (z : Taken). then (at (p .lines + 1) z) (λ (q : Reading). lines (suc (p .lines + 1)) q (pieces 10 (span text (e + 1) (length text))))) (sym q ∙ d .is)
-            ∙ sym (ap (lines (p .lines + 1) (readingOf p s w)) (k .here within) ∙ lines-next (p .lines + 1) (readingOf p s w) (span text from e) (span text (e + 1) (length text)))
+            ∙ sym (ap (lines (p .lines + 1) (readingOf p w)) (k .here within) ∙ lines-next (p .lines + 1) (readingOf p w) (span text from e) (span text (e + 1) (length text)))
             ∙ inv .is
 
-        pub walk-fault : {n : ℕ} → v ≡ Fault n → Lines text s′ w′ (Refused n (p .lines + 1))
-        walk-fault {n} q = record { is = turn (fault n) (ap (λ (o : Verdict). takenOf o s′ w′) q); laid = tt }
+        pub walk-fault : {n : ℕ} → v ≡ Fault n → Lines text w₀ w′ (Refused n (p .lines + 1))
+        walk-fault {n} q = record { is = turn (fault n) (ap (λ (o : Verdict). takenOf o w′) q); laid = tt; apart = walk-apart }
 
-        pub walk-long-s : length s′ ≡ length s₀
-        walk-long-s = d .long-s ∙ inv .long-s
-
-        pub walk-long-w : length w′ ≡ length w₀
-        walk-long-w = d .long-w ∙ inv .long-w
-
-        pub walk-more : {q : Progress} → v ≡ TakenV q → Walking text s₀ w₀ s′ w′ (e + 1) q
+        pub walk-more : {q : Progress} → v ≡ TakenV q → Walking text w₀ w′ (e + 1) q
         walk-more {q} g =
-            let went : Went p e s′ q = subst (Goes p e s′) g (d .goes) in
+            let went : Went p e w′ q = subst (Goes p e w′) g (d .goes) in
             record {
               fine = went .fine;
               layout = went .layout;
               low = went .low;
               high = let z = within in omega arith;
-              places = omega (arith, d .long-s, inv .places);
-              room = omega (arith, d .long-w, inv .room);
-              long-s = walk-long-s;
-              long-w = walk-long-w;
+              room = omega (arith, d .apart .same-length, inv .room);
+              apart = walk-apart;
               is =
-                  ap (λ (n : ℕ). lines n (readingOf q s′ w′) (pieces 10 (span text (e + 1) (length text)))) (ap (λ (n : ℕ). n + 1) (went .lines) ∙ add-one (p .lines + 1))
-                  ∙ turn (taken (readingOf q s′ w′)) (ap (λ (o : Verdict). takenOf o s′ w′) g);
+                  ap (λ (n : ℕ). lines n (readingOf q w′) (pieces 10 (span text (e + 1) (length text)))) (ap (λ (n : ℕ). n + 1) (went .lines) ∙ add-one (p .lines + 1))
+                  ∙ turn (taken (readingOf q w′)) (ap (λ (o : Verdict). takenOf o w′) g);
             }

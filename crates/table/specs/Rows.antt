@@ -7,18 +7,30 @@ use lib.ListN.{length, drop}
 use lib.Dec.{eqb, ltb}
 use Rattle.cells.specs.Part.{run, cell, part, if}
 use Rattle.rules.specs.Plain.{both, ascending, before}
-use Rattle.rules.specs.Ceilings.{mostNames, longestName, mostEntries, mostIds, mostPairs, mostMarks, mostRoots}
+use Rattle.rules.specs.Ceilings.{mostText, mostNames, longestName, mostEntries, mostIds, mostPairs, mostMarks, mostRoots}
 use Rattle.rules.specs.Text.{lineFeed, pieces}
 use Rattle.rules.specs.Table.{entryOf, sectionOf, dynPlace, openPlace, kids, asSet, keysAscend, weight, allBelow, inRange, inOrder, rowWeight, stageAfter, frozenEntry, Reading, nothing, Taken, taken, fault, step, Result, accepted, refused, then, lines, known, inTable, tableOf}
 use Rattle.rules.specs.Table as rules
 use Rattle.text.specs.Reads.{span}
+use Rattle.layout.specs.Layout.{rowsAt, tableWords, tableLength}
 use Rattle.table.specs.declared.Table.{Table}
-use Rattle.table.specs.declared.Places.{Places}
-use Rattle.table.specs.declared.Progress.{Progress}
+use Rattle.table.specs.declared.rows.Places.{Places}
+use Rattle.table.specs.declared.judging.Progress.{Progress}
 use Rattle.table.specs.declared.Answer.{Answer}
 use Rattle.table.specs.declared.Answer.the-variants.{Accepted, Refused}
-use Rattle.table.specs.declared.Verdict.{Verdict}
-use Rattle.table.specs.declared.Verdict.the-variants.{Taken as TakenV, Fault}
+use Rattle.table.specs.declared.judging.Verdict.{Verdict}
+use Rattle.table.specs.declared.judging.Verdict.the-variants.{Taken as TakenV, Fault}
+
+-- a row for each line at its ceiling
+abbrev pub mostLines : ℕ
+mostLines = 1 + mostNames + mostEntries + mostPairs + mostMarks + mostRoots
+
+-- where row i begins, and the row before it ends
+abbrev pub beginAt : List ℕ → ℕ → ℕ
+beginAt w i = cell w (rowsAt + i)
+
+pub record Begin (w : List ℕ) (i r : ℕ) : Type 0 where
+  pub is : r ≡ beginAt w i
 
 -- what stands in a row, k after its kind
 pub record At (w : List ℕ) (from to k r : ℕ) : Type 0 where
@@ -136,21 +148,21 @@ pub record InOrder (stage s : ℕ) (r : Bool) : Type 0 where
   pub is : r ≡ inOrder stage s
 
 -- the new name comes after the last one
-abbrev pub nameAfter : Progress → List ℕ → List ℕ → ℕ → Bool
-nameAfter p s w to =
+abbrev pub nameAfter : Progress → List ℕ → ℕ → Bool
+nameAfter p w to =
     if (eqb (p .table .names) 0) (λ _. true)
-    (λ _. before (span w (cell s (p .table .names) + 1) (p .top)) (span w (p .top + 1) to))
+    (λ _. before (span w (beginAt w (p .table .names) + 1) (p .top)) (span w (p .top + 1) to))
 
-pub record NameAscends (p : Progress) (s w : List ℕ) (to : ℕ) (r : Bool) : Type 0 where
-  pub is : r ≡ nameAfter p s w to
+pub record NameAscends (p : Progress) (w : List ℕ) (to : ℕ) (r : Bool) : Type 0 where
+  pub is : r ≡ nameAfter p w to
 
-abbrev pub ascendsBy : Progress → List ℕ → List ℕ → ℕ → ℕ → Bool
-ascendsBy p s w to sec =
-    if (eqb sec 1) (λ _. nameAfter p s w to)
+abbrev pub ascendsBy : Progress → List ℕ → ℕ → ℕ → Bool
+ascendsBy p w to sec =
+    if (eqb sec 1) (λ _. nameAfter p w to)
     (λ _. if (eqb sec 2) (λ _. keysAscend (asSet (entryOf (span w (p .top) to)))) (λ _. true))
 
-pub record Ascends (p : Progress) (s w : List ℕ) (to sec : ℕ) (r : Bool) : Type 0 where
-  pub is : r ≡ ascendsBy p s w to sec
+pub record Ascends (p : Progress) (w : List ℕ) (to sec : ℕ) (r : Bool) : Type 0 where
+  pub is : r ≡ ascendsBy p w to sec
 
 pub record RowWeight (w : List ℕ) (from to s r : ℕ) : Type 0 where
   pub is : r ≡ rowWeight s (span w from to)
@@ -166,8 +178,8 @@ pub record StageAfter (s r : ℕ) : Type 0 where
 pub record Fine (p : Progress) : Type 0 where
   pub few : Few (p .table)
   pub few-ids : p .ids ≤ mostIds
-  pub low : p .top ≤ 65536
-  pub few-lines : p .lines ≤ 5697
+  pub low : p .top ≤ tableLength
+  pub few-lines : p .lines ≤ mostLines
   pub unbegun : p .stage ≡ 0 → p .lines ≡ 0
   pub begun : (p .stage ≡ 0 → ⊥) → p .lines ≡ 1 + p .table .names + p .table .entries + p .table .pairs + p .table .marks + p .table .roots
   pub no-names : p .stage ≤ 0 → p .table .names ≡ 0
@@ -183,11 +195,11 @@ pub record Advanced (p : Progress) (s ids to : ℕ) (r : Progress) : Type 0 wher
   pub is : r ≡ advanceBy p s ids to
 
 -- rules' `admit` on counts, of a row of section s
-abbrev pub judgeBy : Progress → List ℕ → List ℕ → ℕ → ℕ → Verdict
-judgeBy p s w to sec =
+abbrev pub judgeBy : Progress → List ℕ → ℕ → ℕ → Verdict
+judgeBy p w to sec =
     if (inOrder (p .stage) sec)
     (λ _. if (overBy (countRow (p .table) sec) (p .ids + rowWeight sec (span w (p .top) to)) sec ((to - p .top) - 1)) (λ _. Fault 2)
-    (λ _. if (ascendsBy p s w to sec)
+    (λ _. if (ascendsBy p w to sec)
     (λ _. if (eqb (cell (span w (p .top) to) 0) frozenEntry) (λ _. Fault 5) (λ _. TakenV (advanceBy p sec (rowWeight sec (span w (p .top) to)) to)))
     (λ _. Fault 4)))
     (λ _. Fault 1)
@@ -203,118 +215,122 @@ abbrev pub Admitted : Progress → ℕ → Verdict → Type 0
 Admitted p to (TakenV q) = Passed p to q
 Admitted p to (Fault k) = Unit {0}
 
-pub record Judged (p : Progress) (s w : List ℕ) (to : ℕ) (r : Verdict) : Type 0 where
-  pub is : r ≡ judgeBy p s w to (sectionOf (cell (span w (p .top) to) 0))
+pub record Judged (p : Progress) (w : List ℕ) (to : ℕ) (r : Verdict) : Type 0 where
+  pub is : r ≡ judgeBy p w to (sectionOf (cell (span w (p .top) to) 0))
   pub admitted : Admitted p to r
 
 -- row i
-abbrev pub rowAt : List ℕ → List ℕ → ℕ → List ℕ
-rowAt s w i = span w (cell s i) (cell s (i + 1))
+abbrev pub rowAt : List ℕ → ℕ → List ℕ
+rowAt w i = span w (beginAt w i) (beginAt w (i + 1))
 
 -- rows without the number of their kind
 abbrev pub bare : List (List ℕ) → List (List ℕ)
 bare rs = map (drop 1) rs
 
-abbrev pub tableAt : ℕ → Table → List ℕ → List ℕ → rules.Table
-tableAt b t s w = record {
+abbrev pub tableAt : ℕ → Table → List ℕ → rules.Table
+tableAt b t w = record {
   budget = b;
-  names = bare (run (rowAt s w) 1 (t .names));
-  entries = run (rowAt s w) (1 + t .names) (t .entries);
-  pairs = bare (run (rowAt s w) (1 + t .names + t .entries) (t .pairs));
-  marks = bare (run (rowAt s w) (1 + t .names + t .entries + t .pairs) (t .marks));
-  roots = bare (run (rowAt s w) (1 + t .names + t .entries + t .pairs + t .marks) (t .roots));
+  names = bare (run (rowAt w) 1 (t .names));
+  entries = run (rowAt w) (1 + t .names) (t .entries);
+  pairs = bare (run (rowAt w) (1 + t .names + t .entries) (t .pairs));
+  marks = bare (run (rowAt w) (1 + t .names + t .entries + t .pairs) (t .marks));
+  roots = bare (run (rowAt w) (1 + t .names + t .entries + t .pairs + t .marks) (t .roots));
 }
 
 -- the table that the rows are
-unfoldable pub tableFrom : Table → List ℕ → List ℕ → rules.Table
-tableFrom t s w = tableAt (cell (rowAt s w 0) 1) t s w
+unfoldable pub tableFrom : Table → List ℕ → rules.Table
+tableFrom t w = tableAt (cell (rowAt w 0) 1) t w
 
 -- what the code answers, with the rows that it left
-abbrev pub outcome : Answer → List ℕ → List ℕ → Result rules.Table
-outcome (Accepted t) s w = accepted (tableFrom t s w)
-outcome (Refused k l) s w = refused k l
+abbrev pub outcome : Answer → List ℕ → Result rules.Table
+outcome (Accepted t) w = accepted (tableFrom t w)
+outcome (Refused k l) w = refused k l
 
 -- how many rows there are
 abbrev pub rows : Table → ℕ
 rows t = 1 + t .names + t .entries + t .pairs + t .marks + t .roots
 
--- the rows stand one after the other, within the words
-pub record Laid (t : Table) (s : List ℕ) : Type 0 where
+-- the rows stand one after the other, behind their beginnings and within the slice
+pub record Laid (t : Table) (w : List ℕ) : Type 0 where
   pub few : Few t
-  pub order : (i : ℕ) → i < rows t → cell s i ≤ cell s (i + 1)
-  pub within : (i : ℕ) → i ≤ rows t → cell s i ≤ 65536
+  pub order : (i : ℕ) → i < rows t → beginAt w i ≤ beginAt w (i + 1)
+  pub behind : (i : ℕ) → i ≤ rows t → tableWords ≤ beginAt w i
+  pub within : (i : ℕ) → i ≤ rows t → beginAt w i ≤ tableLength
 
 abbrev pub LaidBy : Answer → List ℕ → Type 0
-LaidBy (Accepted t) s = Laid t s
-LaidBy (Refused k l) s = Unit {0}
-
--- what is lent to read a text
-pub record Lent (places room : ℕ) (s w : List ℕ) : Type 0 where
-  pub long-s : places ≤ length s
-  pub long-w : room ≤ length w
+LaidBy (Accepted t) w = Laid t w
+LaidBy (Refused k l) w = Unit {0}
 
 -- nothing read yet
 abbrev pub untouched : Progress
-untouched = record { stage = 0; lines = 0; top = 0; ids = 0; table = record { names = 0; entries = 0; pairs = 0; marks = 0; roots = 0 } }
+untouched = record { stage = 0; lines = 0; top = tableWords; ids = 0; table = record { names = 0; entries = 0; pairs = 0; marks = 0; roots = 0 } }
 
 pub record Unread (p : Progress) : Type 0 where
   pub is : p ≡ untouched
 
 -- no row yet
-pub record Begun (s w : List ℕ) : Type 0 where
-  pub places : 5698 ≤ length s
-  pub room : 65536 ≤ length w
-  pub none-yet : cell s 0 ≡ 0
+pub record Begun (w : List ℕ) : Type 0 where
+  pub room : tableLength ≤ length w
+  pub none-yet : beginAt w 0 ≡ tableWords
+
+-- no cell before the beginnings of rows changed
+pub record Apart (w w′ : List ℕ) : Type 0 where
+  pub same-length : length w′ ≡ length w
+  pub kept : (k : ℕ) → k < rowsAt → cell w′ k ≡ cell w k
+
+pub record Started (w w′ : List ℕ) : Type 0 where
+  pub begun : Begun w′
+  pub apart : Apart w w′
 
 -- the reading before the budget line has budget 0
-abbrev pub budgetBy : ℕ → List ℕ → List ℕ → ℕ
-budgetBy stage s w = if (eqb stage 0) (λ _. 0) (λ _. cell (rowAt s w 0) 1)
+abbrev pub budgetBy : ℕ → List ℕ → ℕ
+budgetBy stage w = if (eqb stage 0) (λ _. 0) (λ _. cell (rowAt w 0) 1)
 
 -- what was read so far, as the rules have it
-abbrev pub readingOf : Progress → List ℕ → List ℕ → Reading
-readingOf p s w = record { stage = p .stage; ids = p .ids; table = tableAt (budgetBy (p .stage) s w) (p .table) s w }
+abbrev pub readingOf : Progress → List ℕ → Reading
+readingOf p w = record { stage = p .stage; ids = p .ids; table = tableAt (budgetBy (p .stage) w) (p .table) w }
 
-abbrev pub takenOf : Verdict → List ℕ → List ℕ → Taken
-takenOf (TakenV p) s w = taken (readingOf p s w)
-takenOf (Fault k) s w = fault k
+abbrev pub takenOf : Verdict → List ℕ → Taken
+takenOf (TakenV p) w = taken (readingOf p w)
+takenOf (Fault k) w = fault k
 
--- the rows so far stand one after the other and end at top
-pub record Layout (p : Progress) (s : List ℕ) : Type 0 where
-  pub ends : cell s (p .lines) ≡ p .top
-  pub order : (i : ℕ) → i < p .lines → cell s i ≤ cell s (i + 1)
-  pub within : (i : ℕ) → i ≤ p .lines → cell s i ≤ p .top
+-- the rows so far stand one after the other, behind their beginnings, and end at top
+pub record Layout (p : Progress) (w : List ℕ) : Type 0 where
+  pub ends : beginAt w (p .lines) ≡ p .top
+  pub order : (i : ℕ) → i < p .lines → beginAt w i ≤ beginAt w (i + 1)
+  pub behind : (i : ℕ) → i ≤ p .lines → tableWords ≤ beginAt w i
+  pub within : (i : ℕ) → i ≤ p .lines → beginAt w i ≤ p .top
 
 -- what a line asks
-pub record Ready (text : List ℕ) (from to : ℕ) (s w : List ℕ) (p : Progress) : Type 0 where
+pub record Ready (text : List ℕ) (from to : ℕ) (w : List ℕ) (p : Progress) : Type 0 where
   pub fine : Fine p
-  pub layout : Layout p s
+  pub layout : Layout p w
   pub order : from ≤ to
   pub ended : to < length text
-  pub short : length text ≤ 65536
-  pub low : p .top ≤ from
-  pub places : 5698 ≤ length s
-  pub room : 65536 ≤ length w
+  pub short : length text ≤ mostText
+  pub low : p .top ≤ tableWords + from
+  pub room : tableLength ≤ length w
 
 -- q is p with one row more
-pub record Went (p : Progress) (to : ℕ) (s : List ℕ) (q : Progress) : Type 0 where
+pub record Went (p : Progress) (to : ℕ) (w : List ℕ) (q : Progress) : Type 0 where
   pub fine : Fine q
-  pub layout : Layout q s
-  pub low : q .top ≤ to + 1
+  pub layout : Layout q w
+  pub low : q .top ≤ tableWords + (to + 1)
   pub lines : q .lines ≡ p .lines + 1
 
 abbrev pub Goes : Progress → ℕ → List ℕ → Verdict → Type 0
-Goes p to s (TakenV q) = Went p to s q
-Goes p to s (Fault k) = Unit {0}
+Goes p to w (TakenV q) = Went p to w q
+Goes p to w (Fault k) = Unit {0}
 
-pub record Lined (text : List ℕ) (from to : ℕ) (p : Progress) (s w s′ w′ : List ℕ) (r : Verdict) : Type 0 where
-  pub is : takenOf r s′ w′ ≡ step (readingOf p s w) (span text from to)
-  pub goes : Goes p to s′ r
-  pub long-s : length s′ ≡ length s
-  pub long-w : length w′ ≡ length w
+pub record Lined (text : List ℕ) (from to : ℕ) (p : Progress) (w w′ : List ℕ) (r : Verdict) : Type 0 where
+  pub is : takenOf r w′ ≡ step (readingOf p w) (span text from to)
+  pub goes : Goes p to w′ r
+  pub apart : Apart w w′
 
-pub record Lines (text s w : List ℕ) (r : Answer) : Type 0 where
-  pub is : outcome r s w ≡ lines 1 nothing (pieces lineFeed text)
-  pub laid : LaidBy r s
+pub record Lines (text w w′ : List ℕ) (r : Answer) : Type 0 where
+  pub is : outcome r w′ ≡ lines 1 nothing (pieces lineFeed text)
+  pub laid : LaidBy r w′
+  pub apart : Apart w w′
 
 pub record VarKnown (w : List ℕ) (from to n : ℕ) (r : Bool) : Type 0 where
   pub is : r ≡ allBelow n (kids (rules.var (part (span w from to) 2 (cell (span w from to) 1)) (part (span w from to) (3 + cell (span w from to) 1) (cell (span w from to) (2 + cell (span w from to) 1)))))
@@ -336,26 +352,31 @@ pub record EntryKnown (w : List ℕ) (from to n names : ℕ) (r : Bool) : Type 0
   pub is : r ≡ inRange n names (entryOf (span w from to))
 
 -- the table, where every row passes the test
-abbrev pub unless : Result (Unit {0}) → Table → List ℕ → List ℕ → Result rules.Table
-unless m t s w = then m (λ _. accepted (tableFrom t s w))
+abbrev pub unless : Result (Unit {0}) → Table → List ℕ → Result rules.Table
+unless m t w = then m (λ _. accepted (tableFrom t w))
 
 -- an answer that accepts is of the table asked for
 abbrev pub Kept : Table → Answer → Type 0
 Kept t (Accepted u) = u ≡ t
 Kept t (Refused k l) = Unit {0}
 
-pub record EntriesKnown (s w : List ℕ) (t : Table) (r : Answer) : Type 0 where
-  pub is : outcome r s w ≡ unless (known (λ (row : List ℕ). inRange (t .entries) (t .names) (entryOf row)) (2 + t .names) (run (rowAt s w) (1 + t .names) (t .entries))) t s w
+pub record EntriesKnown (w : List ℕ) (t : Table) (r : Answer) : Type 0 where
+  pub is : outcome r w ≡ unless (known (λ (row : List ℕ). inRange (t .entries) (t .names) (entryOf row)) (2 + t .names) (run (rowAt w) (1 + t .names) (t .entries))) t w
 
-pub record RootsKnown (s w : List ℕ) (t : Table) (r : Answer) : Type 0 where
-  pub is : outcome r s w ≡ unless (known (λ (row : List ℕ). ltb (cell row 0) (t .entries)) (2 + t .names + t .entries + t .pairs + t .marks) (bare (run (rowAt s w) (1 + t .names + t .entries + t .pairs + t .marks) (t .roots)))) t s w
+pub record RootsKnown (w : List ℕ) (t : Table) (r : Answer) : Type 0 where
+  pub is : outcome r w ≡ unless (known (λ (row : List ℕ). ltb (cell row 0) (t .entries)) (2 + t .names + t .entries + t .pairs + t .marks) (bare (run (rowAt w) (1 + t .names + t .entries + t .pairs + t .marks) (t .roots)))) t w
   pub kept : Kept t r
 
-pub record Known (s w : List ℕ) (t : Table) (r : Answer) : Type 0 where
-  pub is : outcome r s w ≡ inTable (tableFrom t s w)
+pub record Known (w : List ℕ) (t : Table) (r : Answer) : Type 0 where
+  pub is : outcome r w ≡ inTable (tableFrom t w)
   pub kept : Kept t r
 
 -- a text read: what is answered, with the rows left, is what the text says
-pub record Read (text s w : List ℕ) (r : Answer) : Type 0 where
-  pub is : outcome r s w ≡ tableOf text
-  pub laid : LaidBy r s
+pub record Read (text w : List ℕ) (r : Answer) : Type 0 where
+  pub is : outcome r w ≡ tableOf text
+  pub laid : LaidBy r w
+
+-- and what stood before the beginnings of rows stands there still
+pub record ReadInto (text w w′ : List ℕ) (r : Answer) : Type 0 where
+  pub read : Read text w′ r
+  pub apart : Apart w w′

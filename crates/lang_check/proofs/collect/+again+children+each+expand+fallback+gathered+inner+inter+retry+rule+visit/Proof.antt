@@ -1,13 +1,13 @@
-use mathlib.Core.Path.{_∙_}
-use Rattle.lang_check.proofs.Visiting.{visits-bailed, visits-over, visits-busy, visits-cached, visits-full, visits-works}
-use Rattle.lang_check.proofs.Expanding.{gathers, expands-node, expands-empty, expands-refused, falls-spent, falls-cut, falls-on, inner-named, inner-variable, inner-bounds}
-use Rattle.lang_check.proofs.Intering.{inters, retries, again-node, again-refused, again-bottom, again-retry}
-use Rattle.lang_check.proofs.Eaching.{Eaching, eaching-start, eaching-more, each-refused, each-done}
-use Rattle.lang_check.proofs.Ruling.{children as makes-children, rules-variable, rules-inter, rules-made}
+use Rattle.lang_check.proofs.Rule.{children as makes-children, rules-variable, rules-inter, rules-made}
+use Rattle.lang_check.proofs.Visit.{visits-bailed, visits-over, visits-busy, visits-cached, visits-full, visits-works}
+use Rattle.lang_check.proofs.Expand.{gathers, expands-node, expands-empty, expands-refused, falls-spent, falls-cut, falls-on, inner-named, inner-variable, inner-bounds}
+use Rattle.lang_check.proofs.Inter.{inters, retries, again-node, again-refused, again-bottom, again-retry}
+use Rattle.lang_check.proofs.Each.{Eaching, eaching-start, eaching-more, each-refused, each-done}
 use borrow.Author.Tests.{not-true, not-false}
 use native.Mathlib.Omega.{arith}
 use borrow.Author.Needs.{needs}
 use Prim.Native.Nat.{ℕ, _<_, _*_, _+_, _-_, _≤_}
+use Prim.Native.Nat.{ℕ, _<_}
 use borrow.Fn.Kinds.{In}
 use borrow.Fn.PlainCycle.{Measures, is, falls, and}
 use Rattle.lang_check.proofs.collect.again.Reads as again
@@ -49,24 +49,24 @@ use Rattle.cells.proofs.get.Reads as get-reads
 use Rattle.cells.proofs.place.Reads as place-reads
 use Rattle.cells.proofs.put.Reads as put-reads
 use Rattle.cells.proofs.set.Reads as set-reads
-use Rattle.entries.proofs.held.begin_list.Reads as begin-list-reads
-use Rattle.entries.proofs.held.deduplicated.Reads as deduplicated-reads
-use Rattle.entries.proofs.held.first_polarity.Reads as first-polarity-reads
-use Rattle.entries.proofs.held.hold_children.Reads as hold-children-reads
-use Rattle.entries.proofs.held.hold_two.Reads as hold-two-reads
-use Rattle.entries.proofs.held.own_bounds.Reads as own-bounds-reads
-use Rattle.entries.proofs.marks.bail.Reads as bail-reads
-use Rattle.entries.proofs.marks.begin.Reads as begin-reads
-use Rattle.entries.proofs.marks.count_one.Reads as count-one-reads
-use Rattle.entries.proofs.marks.exceeds.Reads as exceeds-reads
-use Rattle.entries.proofs.marks.none_begun.Reads as none-begun-reads
-use Rattle.entries.proofs.marks.note.Reads as note-reads
-use Rattle.entries.proofs.marks.slot.Reads as slot-reads
-use Rattle.entries.proofs.storage.entry_at.Reads as entry-at-reads
-use Rattle.entries.proofs.storage.named_bound.Reads as named-bound-reads
-use Rattle.entries.proofs.storage.turned.Reads as turned-reads
-use Rattle.entries.proofs.vars.expanded.Reads as expanded-reads
-use Rattle.entries.proofs.vars.variable.Reads as variable-reads
+use Rattle.storage.proofs.held.begin_list.Reads as begin-list-reads
+use Rattle.storage.proofs.held.deduplicated.Reads as deduplicated-reads
+use Rattle.storage.proofs.held.first_polarity.Reads as first-polarity-reads
+use Rattle.storage.proofs.held.hold_children.Reads as hold-children-reads
+use Rattle.storage.proofs.held.hold_two.Reads as hold-two-reads
+use Rattle.storage.proofs.held.own_bounds.Reads as own-bounds-reads
+use Rattle.storage.proofs.notes.bail.Reads as bail-reads
+use Rattle.storage.proofs.notes.begin.Reads as begin-reads
+use Rattle.storage.proofs.notes.count_one.Reads as count-one-reads
+use Rattle.storage.proofs.notes.exceeds.Reads as exceeds-reads
+use Rattle.storage.proofs.notes.none_begun.Reads as none-begun-reads
+use Rattle.storage.proofs.notes.note.Reads as note-reads
+use Rattle.storage.proofs.notes.slot.Reads as slot-reads
+use Rattle.storage.proofs.entries.entry_at.Reads as entry-at-reads
+use Rattle.storage.proofs.entries.named_bound.Reads as named-bound-reads
+use Rattle.storage.proofs.entries.turned.Reads as turned-reads
+use Rattle.storage.proofs.vars.expanded.Reads as expanded-reads
+use Rattle.storage.proofs.vars.variable.Reads as variable-reads
 use Rattle.lang_check.proofs.collect.cached.Reads as cached-reads
 use Rattle.lang_check.proofs.collect.either_variable.Reads as either-variable-reads
 use Rattle.lang_check.proofs.collect.is_cut.Reads as is-cut-reads
@@ -74,8 +74,8 @@ use Rattle.lang_check.proofs.collect.side.Reads as side-reads
 use Rattle.lang_check.proofs.made.made.Reads as made-reads
 use Rattle.lang_check.proofs.made.retried.Reads as retried-reads
 use Rattle.lang_ty.proofs.arena.store_leaf.Reads as store-leaf-reads
-use Rattle.places.proofs.concrete.inter_tried.Reads as inter-tried-reads
-use Rattle.places.proofs.bounds.normalize.Reads as normalize-reads
+use Rattle.composites.proofs.bounds.normalize.Reads as normalize-reads
+use Rattle.composites.proofs.binary.inter_tried.Reads as inter-tried-reads
 use Rattle.rules.proofs.Polarity.flip.Reads as flip-reads
 use Rattle.lang_check.proofs.collect.+again+children+each+expand+fallback+gathered+inner+inter+retry+rule+visit.{
   statement,
@@ -84,107 +84,107 @@ use Rattle.lang_check.proofs.collect.+again+children+each+expand+fallba
   close,
 }
 
-abbrev μ-again : Measures 6 again-kinds.ps ℕ
-μ-again κs a = 20 * a .1 .1 .1 .1 .1 .1 .1 .0 + 4
+abbrev μ-again : Measures 3 again-kinds.ps ℕ
+μ-again κs a = 20 * a .1 .1 .1 .1 .0 + 4
 
-abbrev μ-children : Measures 6 children-kinds.ps ℕ
-μ-children κs a = 20 * a .1 .1 .1 .1 .1 .1 .1 .0 + 2
+abbrev μ-children : Measures 3 children-kinds.ps ℕ
+μ-children κs a = 20 * a .1 .1 .1 .1 .0 + 2
 
-abbrev μ-each : Measures 6 each-kinds.ps ℕ
-μ-each κs a = 20 * a .1 .1 .1 .1 .1 .1 .1 .0 + 1
+abbrev μ-each : Measures 3 each-kinds.ps ℕ
+μ-each κs a = 20 * a .1 .1 .1 .1 .0 + 1
 
-abbrev μ-expand : Measures 6 expand-kinds.ps ℕ
-μ-expand κs a = 20 * a .1 .1 .1 .1 .1 .1 .1 .0 + 4 + 2 * a .1 .1 .1 .1 .1 .1 .1 .1 .1 .1 .0
+abbrev μ-expand : Measures 3 expand-kinds.ps ℕ
+μ-expand κs a = 20 * a .1 .1 .1 .1 .0 + 4 + 2 * a .1 .1 .1 .1 .1 .1 .1 .0
 
-abbrev μ-fallback : Measures 6 fallback-kinds.ps ℕ
-μ-fallback κs a = 20 * a .1 .1 .1 .1 .1 .1 .1 .0 + 3 + 2 * a .1 .1 .1 .1 .1 .1 .1 .1 .1 .1 .0
+abbrev μ-fallback : Measures 3 fallback-kinds.ps ℕ
+μ-fallback κs a = 20 * a .1 .1 .1 .1 .0 + 3 + 2 * a .1 .1 .1 .1 .1 .1 .1 .0
 
-abbrev μ-gathered : Measures 6 gathered-kinds.ps ℕ
-μ-gathered κs a = 20 * a .1 .1 .1 .1 .1 .1 .1 .0 + 2
+abbrev μ-gathered : Measures 3 gathered-kinds.ps ℕ
+μ-gathered κs a = 20 * a .1 .1 .1 .1 .0 + 2
 
-abbrev μ-inner : Measures 6 inner-kinds.ps ℕ
-μ-inner κs a = 20 * a .1 .1 .1 .1 .1 .1 .1 .0 + 13
+abbrev μ-inner : Measures 3 inner-kinds.ps ℕ
+μ-inner κs a = 20 * a .1 .1 .1 .1 .0 + 13
 
-abbrev μ-inter : Measures 6 inter-kinds.ps ℕ
-μ-inter κs a = 20 * a .1 .1 .1 .1 .1 .1 .1 .0 + 5
+abbrev μ-inter : Measures 3 inter-kinds.ps ℕ
+μ-inter κs a = 20 * a .1 .1 .1 .1 .0 + 5
 
-abbrev μ-retry : Measures 6 retry-kinds.ps ℕ
-μ-retry κs a = 20 * a .1 .1 .1 .1 .1 .1 .1 .0 + 3
+abbrev μ-retry : Measures 3 retry-kinds.ps ℕ
+μ-retry κs a = 20 * a .1 .1 .1 .1 .0 + 3
 
-abbrev μ-rule : Measures 6 rule-kinds.ps ℕ
-μ-rule κs a = 20 * a .1 .1 .1 .1 .1 .1 .1 .0 + 14
+abbrev μ-rule : Measures 3 rule-kinds.ps ℕ
+μ-rule κs a = 20 * a .1 .1 .1 .1 .0 + 14
 
-abbrev μ-visit : Measures 6 visit-kinds.ps ℕ
-μ-visit κs a = 20 * a .1 .1 .1 .1 .1 .1 .1 .0
+abbrev μ-visit : Measures 3 visit-kinds.ps ℕ
+μ-visit κs a = 20 * a .1 .1 .1 .1 .0
 
-abbrev again-at : ℕ → In 6 again-kinds.ps
-again-at t = and 6 again-kinds.ps (is 6 again-kinds.ps μ-again t) again.Pre
+abbrev again-at : ℕ → In 3 again-kinds.ps
+again-at t = and 3 again-kinds.ps (is 3 again-kinds.ps μ-again t) again.Pre
 
-abbrev again-below : ℕ → In 6 again-kinds.ps
-again-below t = and 6 again-kinds.ps (falls 6 again-kinds.ps _<_ μ-again t) again.Pre
+abbrev again-below : ℕ → In 3 again-kinds.ps
+again-below t = and 3 again-kinds.ps (falls 3 again-kinds.ps _<_ μ-again t) again.Pre
 
-abbrev children-at : ℕ → In 6 children-kinds.ps
-children-at t = and 6 children-kinds.ps (is 6 children-kinds.ps μ-children t) children.Pre
+abbrev children-at : ℕ → In 3 children-kinds.ps
+children-at t = and 3 children-kinds.ps (is 3 children-kinds.ps μ-children t) children.Pre
 
-abbrev children-below : ℕ → In 6 children-kinds.ps
+abbrev children-below : ℕ → In 3 children-kinds.ps
 children-below t =
-    and 6 children-kinds.ps (falls 6 children-kinds.ps _<_ μ-children t) children.Pre
+    and 3 children-kinds.ps (falls 3 children-kinds.ps _<_ μ-children t) children.Pre
 
-abbrev each-at : ℕ → In 6 each-kinds.ps
-each-at t = and 6 each-kinds.ps (is 6 each-kinds.ps μ-each t) each.Pre
+abbrev each-at : ℕ → In 3 each-kinds.ps
+each-at t = and 3 each-kinds.ps (is 3 each-kinds.ps μ-each t) each.Pre
 
-abbrev each-below : ℕ → In 6 each-kinds.ps
-each-below t = and 6 each-kinds.ps (falls 6 each-kinds.ps _<_ μ-each t) each.Pre
+abbrev each-below : ℕ → In 3 each-kinds.ps
+each-below t = and 3 each-kinds.ps (falls 3 each-kinds.ps _<_ μ-each t) each.Pre
 
-abbrev expand-at : ℕ → In 6 expand-kinds.ps
-expand-at t = and 6 expand-kinds.ps (is 6 expand-kinds.ps μ-expand t) expand.Pre
+abbrev expand-at : ℕ → In 3 expand-kinds.ps
+expand-at t = and 3 expand-kinds.ps (is 3 expand-kinds.ps μ-expand t) expand.Pre
 
-abbrev expand-below : ℕ → In 6 expand-kinds.ps
-expand-below t = and 6 expand-kinds.ps (falls 6 expand-kinds.ps _<_ μ-expand t) expand.Pre
+abbrev expand-below : ℕ → In 3 expand-kinds.ps
+expand-below t = and 3 expand-kinds.ps (falls 3 expand-kinds.ps _<_ μ-expand t) expand.Pre
 
-abbrev fallback-at : ℕ → In 6 fallback-kinds.ps
-fallback-at t = and 6 fallback-kinds.ps (is 6 fallback-kinds.ps μ-fallback t) fallback.Pre
+abbrev fallback-at : ℕ → In 3 fallback-kinds.ps
+fallback-at t = and 3 fallback-kinds.ps (is 3 fallback-kinds.ps μ-fallback t) fallback.Pre
 
-abbrev fallback-below : ℕ → In 6 fallback-kinds.ps
+abbrev fallback-below : ℕ → In 3 fallback-kinds.ps
 fallback-below t =
-    and 6 fallback-kinds.ps (falls 6 fallback-kinds.ps _<_ μ-fallback t) fallback.Pre
+    and 3 fallback-kinds.ps (falls 3 fallback-kinds.ps _<_ μ-fallback t) fallback.Pre
 
-abbrev gathered-at : ℕ → In 6 gathered-kinds.ps
-gathered-at t = and 6 gathered-kinds.ps (is 6 gathered-kinds.ps μ-gathered t) gathered.Pre
+abbrev gathered-at : ℕ → In 3 gathered-kinds.ps
+gathered-at t = and 3 gathered-kinds.ps (is 3 gathered-kinds.ps μ-gathered t) gathered.Pre
 
-abbrev gathered-below : ℕ → In 6 gathered-kinds.ps
+abbrev gathered-below : ℕ → In 3 gathered-kinds.ps
 gathered-below t =
-    and 6 gathered-kinds.ps (falls 6 gathered-kinds.ps _<_ μ-gathered t) gathered.Pre
+    and 3 gathered-kinds.ps (falls 3 gathered-kinds.ps _<_ μ-gathered t) gathered.Pre
 
-abbrev inner-at : ℕ → In 6 inner-kinds.ps
-inner-at t = and 6 inner-kinds.ps (is 6 inner-kinds.ps μ-inner t) inner.Pre
+abbrev inner-at : ℕ → In 3 inner-kinds.ps
+inner-at t = and 3 inner-kinds.ps (is 3 inner-kinds.ps μ-inner t) inner.Pre
 
-abbrev inner-below : ℕ → In 6 inner-kinds.ps
-inner-below t = and 6 inner-kinds.ps (falls 6 inner-kinds.ps _<_ μ-inner t) inner.Pre
+abbrev inner-below : ℕ → In 3 inner-kinds.ps
+inner-below t = and 3 inner-kinds.ps (falls 3 inner-kinds.ps _<_ μ-inner t) inner.Pre
 
-abbrev inter-at : ℕ → In 6 inter-kinds.ps
-inter-at t = and 6 inter-kinds.ps (is 6 inter-kinds.ps μ-inter t) inter.Pre
+abbrev inter-at : ℕ → In 3 inter-kinds.ps
+inter-at t = and 3 inter-kinds.ps (is 3 inter-kinds.ps μ-inter t) inter.Pre
 
-abbrev inter-below : ℕ → In 6 inter-kinds.ps
-inter-below t = and 6 inter-kinds.ps (falls 6 inter-kinds.ps _<_ μ-inter t) inter.Pre
+abbrev inter-below : ℕ → In 3 inter-kinds.ps
+inter-below t = and 3 inter-kinds.ps (falls 3 inter-kinds.ps _<_ μ-inter t) inter.Pre
 
-abbrev retry-at : ℕ → In 6 retry-kinds.ps
-retry-at t = and 6 retry-kinds.ps (is 6 retry-kinds.ps μ-retry t) retry.Pre
+abbrev retry-at : ℕ → In 3 retry-kinds.ps
+retry-at t = and 3 retry-kinds.ps (is 3 retry-kinds.ps μ-retry t) retry.Pre
 
-abbrev retry-below : ℕ → In 6 retry-kinds.ps
-retry-below t = and 6 retry-kinds.ps (falls 6 retry-kinds.ps _<_ μ-retry t) retry.Pre
+abbrev retry-below : ℕ → In 3 retry-kinds.ps
+retry-below t = and 3 retry-kinds.ps (falls 3 retry-kinds.ps _<_ μ-retry t) retry.Pre
 
-abbrev rule-at : ℕ → In 6 rule-kinds.ps
-rule-at t = and 6 rule-kinds.ps (is 6 rule-kinds.ps μ-rule t) rule.Pre
+abbrev rule-at : ℕ → In 3 rule-kinds.ps
+rule-at t = and 3 rule-kinds.ps (is 3 rule-kinds.ps μ-rule t) rule.Pre
 
-abbrev rule-below : ℕ → In 6 rule-kinds.ps
-rule-below t = and 6 rule-kinds.ps (falls 6 rule-kinds.ps _<_ μ-rule t) rule.Pre
+abbrev rule-below : ℕ → In 3 rule-kinds.ps
+rule-below t = and 3 rule-kinds.ps (falls 3 rule-kinds.ps _<_ μ-rule t) rule.Pre
 
-abbrev visit-at : ℕ → In 6 visit-kinds.ps
-visit-at t = and 6 visit-kinds.ps (is 6 visit-kinds.ps μ-visit t) visit.Pre
+abbrev visit-at : ℕ → In 3 visit-kinds.ps
+visit-at t = and 3 visit-kinds.ps (is 3 visit-kinds.ps μ-visit t) visit.Pre
 
-abbrev visit-below : ℕ → In 6 visit-kinds.ps
-visit-below t = and 6 visit-kinds.ps (falls 6 visit-kinds.ps _<_ μ-visit t) visit.Pre
+abbrev visit-below : ℕ → In 3 visit-kinds.ps
+visit-below t = and 3 visit-kinds.ps (falls 3 visit-kinds.ps _<_ μ-visit t) visit.Pre
 
 -- what `again` is told of the functions that it calls
 abbrev again-calls : ℕ → again-lts.Claims
@@ -231,13 +231,13 @@ abbrev visit-calls : ℕ → visit-lts.Claims
 visit-calls t = (variable-reads.Asked, variable-reads.Learnt, count-one-reads.Asked, count-one-reads.Learnt, exceeds-reads.Asked, exceeds-reads.Learnt, bail-reads.Asked, bail-reads.Learnt, slot-reads.Asked, slot-reads.Learnt, at-reads.Asked, at-reads.Learnt, set-reads.Asked, set-reads.Learnt, rule-below t, rule.Post, cached-reads.Asked, cached-reads.Learnt)
 
 again-returns : (t : ℕ) → again-lts.Need-returns (again-calls t) (again-at t) again.Post
-again-returns t c = again-bottom (c .before .before .before .before .before .before .before .before .before .before .t2 .given .1) (c .before .before .before .before .before .before .before .before .either-variable .ensures) (not-true _ (c .before .before .before .before .before .before .before .if1 .taken)) (c .before .before .before .before .store-leaf .ensures)
+again-returns t c = again-bottom (c .before .before .before .before .before .before .before .t2 .given .1) (c .before .before .before .before .before .either-variable .ensures) (not-true _ (c .before .before .before .before .if1 .taken)) (c .before .before .store-leaf .ensures)
 
 again-returns-2 : (t : ℕ) → again-lts.Need-returns-2 (again-calls t) (again-at t) again.Post
 again-returns-2 t c = again-node (c .before .t .given .1)
 
 again-returns-3 : (t : ℕ) → again-lts.Need-returns-3 (again-calls t) (again-at t) again.Post
-again-returns-3 t c = again-retry (c .before .before .before .before .before .before .before .before .before .before .before .before .before .t2 .given .1) (c .before .before .before .before .before .before .before .before .before .before .before .either-variable .ensures) (not-false _ (c .before .before .before .before .before .before .before .before .before .before .if1 .left)) (c .before .before .before .before .before .before .retry .ensures)
+again-returns-3 t c = again-retry (c .before .before .before .before .before .before .before .before .before .before .t2 .given .1) (c .before .before .before .before .before .before .before .before .either-variable .ensures) (not-false _ (c .before .before .before .before .before .before .before .if1 .left)) (c .before .before .before .before .retry .ensures)
 
 again-returns-4 : (t : ℕ) → again-lts.Need-returns-4 (again-calls t) (again-at t) again.Post
 again-returns-4 t c = again-refused (c .before .t3 .given .1)
@@ -246,75 +246,66 @@ children-returns : (t : ℕ) → children-lts.Need-returns (children-calls t) (c
 children-returns t c = search makes-children
 
 abbrev each-Inv-loop : each-lts.InvT-loop
-each-Inv-loop rows table facts c starts₀ words₀ work₀ free h n first pol q₀ i₀ starts words work q i =
-    (n ≤ 4294967295) × Eaching rows table facts c starts₀ words₀ work₀ free h q₀ n first pol starts words work q i
+each-Inv-loop table c arena₀ work₀ free h n first pol q₀ i₀ arena work q i =
+    (n ≤ 4294967295) × Eaching table c arena₀ work₀ free h q₀ n first pol arena work q i
 
 abbrev each-μ-loop : each-lts.MeasureT-loop
-each-μ-loop rows table facts c starts₀ words₀ work₀ free h n first pol q₀ i₀ starts words work q i =
+each-μ-loop table c arena₀ work₀ free h n first pol q₀ i₀ arena work q i =
     n - i
 
 each-loop-holds : (t : ℕ) → each-lts.Need-loop-holds (each-calls t) (each-at t) each.Post each-Inv-loop each-μ-loop
 each-loop-holds t c = (search needs, eaching-start)
 
 each-add-i : (t : ℕ) → each-lts.Need-add-i (each-calls t) (each-at t) each.Post each-Inv-loop each-μ-loop
-each-add-i t c = omega (arith, c .before .before .before .before .before .before .before .before .before .before .before .before .before .before .before .before .before .before .before .before .before .before .before .before .loop .inv .0, c .before .before .before .before .before .before .before .before .before .before .before .before .before .before .before .before .before .before .before .before .before .before .before .loop-test .taken)
+each-add-i t c = omega (arith, c .before .before .before .before .before .before .before .before .before .before .before .before .before .before .before .before .before .before .before .before .before .loop .inv .0, c .before .before .before .before .before .before .before .before .before .before .before .before .before .before .before .before .before .before .before .before .loop-test .taken)
 
 each-loop-again : (t : ℕ) → each-lts.Need-loop-again (each-calls t) (each-at t) each.Post each-Inv-loop each-μ-loop
-each-loop-again t c = (c .before .before .before .before .before .before .before .before .before .before .before .before .before .before .before .before .before .before .before .before .before .before .before .before .loop .inv .0, eaching-more (c .before .before .before .before .before .before .before .before .before .before .before .before .before .before .before .before .before .before .before .before .before .before .before .before .loop .inv .1) (c .before .before .before .before .before .before .before .before .before .before .before .before .before .before .before .before .before .before .before .before .before .before .before .loop-test .taken) (c .before .before .before .before .before .before .before .before .before .before .before .before .before .before .before .before .before .before .before .before .before .place .ensures) (c .before .before .before .before .before .before .before .before .before .before .before .before .before .before .before .before .before .before .before .before .get .ensures) (c .before .before .before .before .before .before .before .before .before .before .before .before .before .before .before .before .add .ensures) (c .before .before .before .before .before .before .before .before .before .before .before .before .before .before .before .side .ensures) (c .before .before .before .before .before .before .before .before .before .before .before .before .before .before .visit .ensures) (c .before .before .before .before .before .before .x .given .1) (c .before .before .before .before .before .before .before .before .before .before .before .before .before .before .visit .kept .1 .1 .1 .1 .0) (c .before .before .before .before .before .before .before .before .before .before .before .before .before .before .visit .kept .1 .1 .1 .1 .1 .0) (c .before .before .before .before .before .before .before .before .before .before .before .before .before .before .visit .kept .1 .1 .1 .1 .1 .1 .0) (c .before .before .before .place2 .ensures) (c .before .before .put .ensures))
+each-loop-again t c = (c .before .before .before .before .before .before .before .before .before .before .before .before .before .before .before .before .before .before .before .before .before .loop .inv .0, eaching-more (c .before .before .before .before .before .before .before .before .before .before .before .before .before .before .before .before .before .before .before .before .before .loop .inv .1) (c .before .before .before .before .before .before .before .before .before .before .before .before .before .before .before .before .before .before .before .before .loop-test .taken) (c .before .before .before .before .before .before .before .before .before .before .before .before .before .before .before .before .before .before .place .ensures) (c .before .before .before .before .before .before .before .before .before .before .before .before .before .before .before .before .before .get .ensures) (c .before .before .before .before .before .before .before .before .before .before .before .before .before .before .add .ensures) (c .before .before .before .before .before .before .before .before .before .before .before .before .before .side .ensures) (c .before .before .before .before .before .before .before .before .before .before .before .before .visit .ensures) (c .before .before .before .before .before .before .x .given .1) (c .before .before .before .before .before .before .before .before .before .before .before .before .visit .kept .1 .1 .0) (c .before .before .before .before .before .before .before .before .before .before .before .before .visit .kept .1 .1 .1 .0) (c .before .before .before .place2 .ensures) (c .before .before .put .ensures))
 
 each-returns : (t : ℕ) → each-lts.Need-returns (each-calls t) (each-at t) each.Post each-Inv-loop each-μ-loop
-each-returns t c = each-refused (c .before .before .before .before .before .before .before .before .before .before .before .before .before .before .before .before .before .before .before .loop .inv .1) (c .before .before .before .before .before .before .before .before .before .before .before .before .before .before .before .before .before .before .loop-test .taken) (c .before .before .before .before .before .before .before .before .before .before .before .before .before .before .before .before .place .ensures) (c .before .before .before .before .before .before .before .before .before .before .before .before .before .before .before .get .ensures) (c .before .before .before .before .before .before .before .before .before .before .before .add .ensures) (c .before .before .before .before .before .before .before .before .before .before .side .ensures) (c .before .before .before .before .before .before .before .before .before .visit .ensures) (c .before .k .given .1)
+each-returns t c = each-refused (c .before .before .before .before .before .before .before .before .before .before .before .before .before .before .before .before .loop .inv .1) (c .before .before .before .before .before .before .before .before .before .before .before .before .before .before .before .loop-test .taken) (c .before .before .before .before .before .before .before .before .before .before .before .before .before .place .ensures) (c .before .before .before .before .before .before .before .before .before .before .before .before .get .ensures) (c .before .before .before .before .before .before .before .before .before .add .ensures) (c .before .before .before .before .before .before .before .before .side .ensures) (c .before .before .before .before .before .before .before .visit .ensures) (c .before .k .given .1)
 
 each-returns-2 : (t : ℕ) → each-lts.Need-returns-2 (each-calls t) (each-at t) each.Post each-Inv-loop each-μ-loop
 each-returns-2 t c = each-done (c .before .loop .inv .1) (c .loop-test .left)
 
 expand-returns : (t : ℕ) → expand-lts.Need-returns (expand-calls t) (expand-at t) expand.Post
-expand-returns t c = expands-node (c .before .before .before .before .before .before .before .before .before .gathered .ensures) (c .before .x .given .1)
+expand-returns t c = expands-node (c .before .before .before .before .before .before .before .gathered .ensures) (c .before .x .given .1)
 
 expand-returns-2 : (t : ℕ) → expand-lts.Need-returns-2 (expand-calls t) (expand-at t) expand.Post
-expand-returns-2 t c = expands-empty (c .before .before .before .before .before .before .before .before .before .before .before .before .before .before .before .before .before .before .before .gathered .ensures) (c .before .before .before .before .before .before .before .before .before .before .before .r .given .1) (c .before .before .before .before .before .before .before .before .before .before .before .before .before .before .before .before .before .before .before .gathered .kept .1 .1 .1 .1 .1 .1 .0) (c .before .before .before .before .before .before .fallback .ensures)
+expand-returns-2 t c = expands-empty (c .before .before .before .before .before .before .before .before .before .before .before .before .before .before .gathered .ensures) (c .before .before .before .before .before .before .before .before .r .given .1) (c .before .before .before .before .before .before .before .before .before .before .before .before .before .before .gathered .kept .1 .1 .1 .0) (c .before .before .before .before .fallback .ensures)
 
 expand-returns-3 : (t : ℕ) → expand-lts.Need-returns-3 (expand-calls t) (expand-at t) expand.Post
-expand-returns-3 t c = expands-refused (c .before .before .before .before .before .before .before .before .before .gathered .ensures) (c .before .k .given .1)
+expand-returns-3 t c = expands-refused (c .before .before .before .before .before .before .before .gathered .ensures) (c .before .k .given .1)
 
 fallback-returns : (t : ℕ) → fallback-lts.Need-returns (fallback-calls t) (fallback-at t) fallback.Post
-fallback-returns t c = falls-spent (c .before .before .before .before .before .before .before .if1 .taken) (c .before .before .before .before .variable .ensures)
+fallback-returns t c = falls-spent (c .before .before .before .before .if1 .taken) (c .before .before .variable .ensures)
 
 fallback-returns-2 : (t : ℕ) → fallback-lts.Need-returns-2 (fallback-calls t) (fallback-at t) fallback.Post
-fallback-returns-2 t c = falls-cut (c .before .before .before .before .before .before .before .before .before .before .before .before .before .if1 .left) (c .before .before .before .before .before .before .before .before .before .before .before .begin-list .ensures) (c .before .before .before .before .before .before .before .before .is-cut .ensures) (c .before .before .before .before .before .before .before .if2 .taken) (c .before .before .before .before .variable2 .ensures)
+fallback-returns-2 t c = falls-cut (c .before .before .before .before .before .before .before .before .before .before .if1 .left) (c .before .before .before .before .before .before .before .before .begin-list .ensures) (c .before .before .before .before .before .is-cut .ensures) (c .before .before .before .before .if2 .taken) (c .before .before .variable2 .ensures)
 
 fallback-returns-3 : (t : ℕ) → fallback-lts.Need-returns-3 (fallback-calls t) (fallback-at t) fallback.Post
-fallback-returns-3 t c = falls-on (c .before .before .before .before .before .before .before .before .before .before .before .before .before .before .before .before .before .before .if1 .left) (c .before .before .before .before .before .before .before .before .before .before .before .before .before .before .before .before .begin-list .ensures) (c .before .before .before .before .before .before .before .before .before .before .before .before .before .before .before .before .begin-list .kept .1 .1 .1 .1 .0) (c .before .before .before .before .before .before .before .before .before .before .before .before .before .is-cut .ensures) (c .before .before .before .before .before .before .before .before .before .before .before .before .if2 .left) (c .before .before .before .before .before .before .before .before .before .before .before .begin .ensures) (c .before .before .before .before .before .before .before .flip .ensures) (c .before .before .before .before .before .before .expand .ensures)
+fallback-returns-3 t c = falls-on (c .before .before .before .before .before .before .before .before .before .before .before .before .before .before .before .if1 .left) (c .before .before .before .before .before .before .before .before .before .before .before .before .before .begin-list .ensures) (c .before .before .before .before .before .before .before .before .before .before .before .before .before .begin-list .kept .1 .1 .0) (c .before .before .before .before .before .before .before .before .before .before .is-cut .ensures) (c .before .before .before .before .before .before .before .before .before .if2 .left) (c .before .before .before .before .before .before .before .before .begin .ensures) (c .before .before .before .before .before .flip .ensures) (c .before .before .before .before .expand .ensures)
 
 gathered-returns : (t : ℕ) → gathered-lts.Need-returns (gathered-calls t) (gathered-at t) gathered.Post
-gathered-returns t c = gathers (c .before .before .before .before .before .before .before .before .before .before .before .before .before .before .before .before .before .before .before .before .before .before .deduplicated .ensures) (c .before .before .before .before .before .before .before .before .before .before .before .before .before .before .before .before .before .before .before .before .before .before .deduplicated .kept .0) (c .before .before .before .before .before .before .before .before .before .before .before .before .before .before .before .before .each .ensures) (c .before .before .before .before .before .before .before .before .before .before .before .before .before .before .before .before .each .kept .1 .1 .1 .1 .1 .1 .0) (c .before .before .before .before .before .before .normalize .ensures)
+gathered-returns t c = gathers (c .before .before .before .before .before .before .before .before .before .before .before .before .before .before .before .before .deduplicated .ensures) (c .before .before .before .before .before .before .before .before .before .before .before .before .before .before .before .before .deduplicated .kept .0) (c .before .before .before .before .before .before .before .before .before .before .before .each .ensures) (c .before .before .before .before .before .before .before .before .before .before .before .each .kept .1 .1 .1 .0) (c .before .before .before .before .normalize .ensures)
 
 inner-returns : (t : ℕ) → inner-lts.Need-returns (inner-calls t) (inner-at t) inner.Post
-inner-returns t c = inner-named (c .before .before .before .before .before .before .before .before .before .before .before .before .before .named-bound .ensures) (c .before .before .before .before .before .before .before .before .before .before .before .b .given .1) (c .before .before .before .before .before .before .visit .ensures)
+inner-returns t c = inner-named (c .before .before .before .before .before .before .before .before .before .before .named-bound .ensures) (c .before .before .before .before .before .before .before .before .b .given .1) (c .before .before .before .before .visit .ensures)
 
 inner-returns-2 : (t : ℕ) → inner-lts.Need-returns-2 (inner-calls t) (inner-at t) inner.Post
 inner-returns-2 t c = search inner-variable
 
-inner-same-length-9 : (t : ℕ) → inner-lts.Need-same-length-9 (inner-calls t) (inner-at t) inner.Post
-inner-same-length-9 t c = c .before .before .before .before .before .before .before .before .before .before .before .before .before .expand .kept .1 .1 .1 .1 .1 .1 .0 ∙ c .before .before .before .before .before .before .before .before .before .before .before .before .before .before .before .before .before .before .before .before .before .before .before .own-bounds .kept .1 .1 .1 .1 .0 ∙ c .before .before .before .before .before .before .before .before .before .before .before .before .before .before .before .before .before .before .before .before .before .before .before .before .before .before .before .note .kept .1 .1 .0
-
 inner-returns-3 : (t : ℕ) → inner-lts.Need-returns-3 (inner-calls t) (inner-at t) inner.Post
-inner-returns-3 t c = inner-bounds (c .before .before .before .before .before .before .before .before .before .before .before .before .before .before .before .before .before .before .before .before .before .before .before .before .before .before .before .before .before .before .before .named-bound .ensures) (search (c .before .before .before .before .before .before .before .before .before .before .before .before .before .before .before .before .before .before .before .before .before .before .before .before .before .before .before .before .before .enum-told .given)) (c .before .before .before .before .before .before .before .before .before .before .before .before .before .before .before .before .before .before .before .before .before .before .before .before .before .before .before .note .ensures) (c .before .before .before .before .before .before .before .before .before .before .before .before .before .before .before .before .before .before .before .before .before .before .before .own-bounds .ensures) (c .before .before .before .before .before .before .before .before .before .before .before .before .before .before .before .before .before .before .before .n .given .1) (c .before .before .before .before .before .before .before .before .before .before .before .before .before .before .before .before .before .before .before .before .before .before .before .own-bounds .kept .1 .1 .1 .1 .0) (c .before .before .before .before .before .before .before .before .before .before .before .before .before .before .none-begun .ensures) (c .before .before .before .before .before .before .before .before .before .before .before .before .before .expand .ensures) (c .before .before .before .before .expanded .ensures)
+inner-returns-3 t c = inner-bounds (c .before .before .before .before .before .before .before .before .before .before .before .before .before .before .before .before .before .before .before .before .before .before .before .before .before .named-bound .ensures) (search (c .before .before .before .before .before .before .before .before .before .before .before .before .before .before .before .before .before .before .before .before .before .before .before .enum-told .given)) (c .before .before .before .before .before .before .before .before .before .before .before .before .before .before .before .before .before .before .before .before .before .note .ensures) (c .before .before .before .before .before .before .before .before .before .before .before .before .before .before .before .before .before .own-bounds .ensures) (c .before .before .before .before .before .before .before .before .before .before .before .before .before .n .given .1) (c .before .before .before .before .before .before .before .before .before .before .before .before .before .before .before .before .before .own-bounds .kept .1 .1 .0) (c .before .before .before .before .before .before .before .before .before .none-begun .ensures) (c .before .before .before .before .before .before .before .before .expand .ensures) (c .before .before .expanded .ensures)
 
 inter-again-requires : (t : ℕ) → inter-lts.Need-again-requires (inter-calls t) (inter-at t) inter.Post
-inter-again-requires t c κs = (omega (arith, c .before .before .before .before .before .before .before .before .before .before .before .before .before .before .before .before .before .before .before .before .before .before .before .before .before .before .before .before .before .before .before .before .before .pre .0), tt)
-
-inter-same-length-3 : (t : ℕ) → inter-lts.Need-same-length-3 (inter-calls t) (inter-at t) inter.Post
-inter-same-length-3 t c = c .before .before .before .before .before .before .again .kept .1 .1 .1 .1 .1 .1 .0 ∙ c .before .before .before .before .before .before .before .before .before .before .before .before .before .before .before .before .inter-tried .kept .1 .1 .1 .1 .0 ∙ c .before .before .before .before .before .before .before .before .before .before .before .before .before .before .before .before .before .before .before .before .before .before .before .before .before .before .each .kept .1 .1 .1 .1 .1 .1 .0 ∙ c .before .before .before .before .before .before .before .before .before .before .before .before .before .before .before .before .before .before .before .before .before .before .before .before .before .before .before .before .before .before .before .before .hold-two .kept .0
+inter-again-requires t c κs = (omega (arith, c .before .before .before .before .before .before .before .before .before .before .before .before .before .before .before .before .before .before .before .before .before .before .before .pre .0), tt)
 
 inter-returns : (t : ℕ) → inter-lts.Need-returns (inter-calls t) (inter-at t) inter.Post
-inter-returns t c = inters (c .before .before .before .before .before .before .before .before .before .before .before .before .before .before .before .before .before .before .before .before .before .before .before .before .before .before .before .before .before .before .before .before .hold-two .ensures) (c .before .before .before .before .before .before .before .before .before .before .before .before .before .before .before .before .before .before .before .before .before .before .before .before .before .before .each .ensures) (c .before .before .before .before .before .before .before .before .before .before .before .before .before .before .before .before .inter-tried .ensures) (c .before .before .before .before .before .before .again .ensures) (c .before .before .before .before .before .before .before .before .before .before .before .before .before .before .before .before .before .before .before .before .before .before .before .before .before .before .before .before .before .before .before .before .hold-two .kept .0) (c .before .before .before .before .before .before .before .before .before .before .before .before .before .before .before .before .before .before .before .before .before .before .before .before .before .before .each .kept .1 .1 .1 .1 .1 .1 .0) (c .before .before .before .before .before .before .before .before .before .before .before .before .before .before .before .before .inter-tried .kept .1 .1 .1 .1 .0)
-
-retry-same-length-3 : (t : ℕ) → retry-lts.Need-same-length-3 (retry-calls t) (retry-at t) retry.Post
-retry-same-length-3 t c = c .before .before .before .before .before .before .before .before .before .before .before .before .before .inter-tried .kept .1 .1 .1 .1 .0 ∙ c .before .before .before .before .before .before .before .before .before .before .before .before .before .before .before .before .before .before .before .before .before .before .before .each .kept .1 .1 .1 .1 .1 .1 .0 ∙ c .before .before .before .before .before .before .before .before .before .before .before .before .before .before .before .before .before .before .before .before .before .before .before .before .before .before .before .before .before .before .before .hold-two .kept .0
+inter-returns t c = inters (c .before .before .before .before .before .before .before .before .before .before .before .before .before .before .before .before .before .before .before .before .before .before .before .hold-two .ensures) (c .before .before .before .before .before .before .before .before .before .before .before .before .before .before .before .before .before .before .each .ensures) (c .before .before .before .before .before .before .before .before .before .before .before .inter-tried .ensures) (c .before .before .before .before .again .ensures) (c .before .before .before .before .before .before .before .before .before .before .before .before .before .before .before .before .before .before .before .before .before .before .before .hold-two .kept .0) (c .before .before .before .before .before .before .before .before .before .before .before .before .before .before .before .before .before .before .each .kept .1 .1 .1 .0) (c .before .before .before .before .before .before .before .before .before .before .before .inter-tried .kept .1 .1 .1 .0)
 
 retry-returns : (t : ℕ) → retry-lts.Need-returns (retry-calls t) (retry-at t) retry.Post
-retry-returns t c = retries (c .before .before .before .before .before .before .before .before .before .before .before .before .before .before .before .before .before .before .before .before .before .before .before .before .before .before .before .before .before .before .before .hold-two .ensures) (c .before .before .before .before .before .before .before .before .before .before .before .before .before .before .before .before .before .before .before .before .before .before .before .before .before .before .before .before .turned .ensures) (c .before .before .before .before .before .before .before .before .before .before .before .before .before .before .before .before .before .before .before .before .before .before .before .before .before .before .before .turned2 .ensures) (c .before .before .before .before .before .before .before .before .before .before .before .before .before .before .before .before .before .before .before .before .before .before .before .each .ensures) (c .before .before .before .before .before .before .before .before .before .before .before .before .before .inter-tried .ensures) (c .before .before .before .before .retried .ensures) (c .before .before .before .before .before .before .before .before .before .before .before .before .before .before .before .before .before .before .before .before .before .before .before .before .before .before .before .before .before .before .before .hold-two .kept .0) (c .before .before .before .before .before .before .before .before .before .before .before .before .before .before .before .before .before .before .before .before .before .before .before .each .kept .1 .1 .1 .1 .1 .1 .0) (c .before .before .before .before .before .before .before .before .before .before .before .before .before .inter-tried .kept .1 .1 .1 .1 .0)
+retry-returns t c = retries (c .before .before .before .before .before .before .before .before .before .before .before .before .before .before .before .before .before .before .before .before .before .before .hold-two .ensures) (c .before .before .before .before .before .before .before .before .before .before .before .before .before .before .before .before .before .before .before .turned .ensures) (c .before .before .before .before .before .before .before .before .before .before .before .before .before .before .before .before .before .before .turned2 .ensures) (c .before .before .before .before .before .before .before .before .before .before .before .before .before .before .before .each .ensures) (c .before .before .before .before .before .before .before .before .inter-tried .ensures) (c .before .before .retried .ensures) (c .before .before .before .before .before .before .before .before .before .before .before .before .before .before .before .before .before .before .before .before .before .before .hold-two .kept .0) (c .before .before .before .before .before .before .before .before .before .before .before .before .before .before .before .each .kept .1 .1 .1 .0) (c .before .before .before .before .before .before .before .before .inter-tried .kept .1 .1 .1 .0)
 
 rule-returns : (t : ℕ) → rule-lts.Need-returns (rule-calls t) (rule-at t) rule.Post
 rule-returns t c = search rules-variable
@@ -326,13 +317,13 @@ rule-returns-3 : (t : ℕ) → rule-lts.Need-returns-3 (rule-calls t) (rule-at t
 rule-returns-3 t c = search rules-made
 
 visit-returns : (t : ℕ) → visit-lts.Need-returns (visit-calls t) (visit-at t) visit.Post
-visit-returns t c = visits-bailed (c .before .before .before .before .before .before .before .if1 .taken) (c .before .before .before .before .variable .ensures)
+visit-returns t c = visits-bailed (c .before .before .before .before .if1 .taken) (c .before .before .variable .ensures)
 
 visit-returns-2 : (t : ℕ) → visit-lts.Need-returns-2 (visit-calls t) (visit-at t) visit.Post
-visit-returns-2 t c = visits-over (c .before .before .before .before .before .before .before .before .before .before .before .if1 .left) (c .before .before .before .before .before .before .before .before .before .before .count-one .ensures) (c .before .before .before .before .before .before .before .before .before .exceeds .ensures) (c .before .before .before .before .before .before .before .before .if2 .taken) (c .before .before .before .before .before .bail .ensures) (c .before .before .before .before .variable2 .ensures)
+visit-returns-2 t c = visits-over (c .before .before .before .before .before .before .before .before .if1 .left) (c .before .before .before .before .before .before .before .count-one .ensures) (c .before .before .before .before .before .before .exceeds .ensures) (c .before .before .before .before .before .if2 .taken) (c .before .before .before .bail .ensures) (c .before .before .variable2 .ensures)
 
 visit-returns-3 : (t : ℕ) → visit-lts.Need-returns-3 (visit-calls t) (visit-at t) visit.Post
-visit-returns-3 t c = visits-busy (c .before .before .before .before .before .before .before .before .before .before .before .before .before .before .if1 .left) (c .before .before .before .before .before .before .before .before .before .before .before .before .before .count-one .ensures) (c .before .before .before .before .before .before .before .before .before .before .before .before .exceeds .ensures) (c .before .before .before .before .before .before .before .before .before .before .before .if2 .left) (c .before .before .before .before .before .before .before .before .before .before .slot .ensures) (c .before .before .before .before .before .before .before .before .at .ensures) (c .before .before .before .before .before .before .before .if3 .taken) (c .before .before .before .before .variable3 .ensures)
+visit-returns-3 t c = visits-busy (c .before .before .before .before .before .before .before .before .before .before .before .if1 .left) (c .before .before .before .before .before .before .before .before .before .before .count-one .ensures) (c .before .before .before .before .before .before .before .before .before .exceeds .ensures) (c .before .before .before .before .before .before .before .before .if2 .left) (c .before .before .before .before .before .before .before .slot .ensures) (c .before .before .before .before .before .at .ensures) (c .before .before .before .before .if3 .taken) (c .before .before .variable3 .ensures)
 
 visit-returns-4 : (t : ℕ) → visit-lts.Need-returns-4 (visit-calls t) (visit-at t) visit.Post
 visit-returns-4 t c = visits-cached (c .before .before .before .before .before .before .before .before .if1 .left) (c .before .before .before .before .before .before .before .count-one .ensures) (c .before .before .before .before .before .before .exceeds .ensures) (c .before .before .before .before .before .if2 .left) (c .before .before .before .before .slot .ensures) (c .before .before .at .ensures) (c .if4 .taken)
@@ -341,7 +332,7 @@ visit-returns-5 : (t : ℕ) → visit-lts.Need-returns-5 (visit-calls t) (visit-
 visit-returns-5 t c = visits-full (c .before .before .before .before .before .before .before .before .before .if1 .left) (c .before .before .before .before .before .before .before .before .count-one .ensures) (c .before .before .before .before .before .before .before .exceeds .ensures) (c .before .before .before .before .before .before .if2 .left) (c .before .before .before .before .before .slot .ensures) (c .before .before .before .at .ensures) (c .before .before .if3 .left) (c .before .if4 .left) (c .if5 .taken)
 
 visit-returns-6 : (t : ℕ) → visit-lts.Need-returns-6 (visit-calls t) (visit-at t) visit.Post
-visit-returns-6 t c = visits-works (c .before .before .before .before .before .before .before .before .before .before .before .before .before .before .before .before .before .before .before .before .before .before .before .before .before .before .before .if1 .left) (c .before .before .before .before .before .before .before .before .before .before .before .before .before .before .before .before .before .before .before .before .before .before .before .before .before .before .count-one .ensures) (c .before .before .before .before .before .before .before .before .before .before .before .before .before .before .before .before .before .before .before .before .before .before .before .before .before .exceeds .ensures) (c .before .before .before .before .before .before .before .before .before .before .before .before .before .before .before .before .before .before .before .before .before .before .before .before .if2 .left) (c .before .before .before .before .before .before .before .before .before .before .before .before .before .before .before .before .before .before .before .before .before .before .before .slot .ensures) (c .before .before .before .before .before .before .before .before .before .before .before .before .before .before .before .before .before .before .before .before .before .at .ensures) (c .before .before .before .before .before .before .before .before .before .before .before .before .before .before .before .before .before .before .before .before .if3 .left) (c .before .before .before .before .before .before .before .before .before .before .before .before .before .before .before .before .before .before .before .if4 .left) (c .before .before .before .before .before .before .before .before .before .before .before .before .before .before .before .before .before .before .if5 .left) (c .before .before .before .before .before .before .before .before .before .before .before .before .before .before .before .before .set .ensures) (c .before .before .before .before .before .before .before .before .before .before .rule .ensures) (c .before .before .before .before .before .before .before .before .before .before .rule .kept .1 .1 .1 .1 .1 .1 .0) (c .before .before .cached .ensures)
+visit-returns-6 t c = visits-works (c .before .before .before .before .before .before .before .before .before .before .before .before .before .before .before .before .before .before .before .before .before .before .before .before .if1 .left) (c .before .before .before .before .before .before .before .before .before .before .before .before .before .before .before .before .before .before .before .before .before .before .before .count-one .ensures) (c .before .before .before .before .before .before .before .before .before .before .before .before .before .before .before .before .before .before .before .before .before .before .exceeds .ensures) (c .before .before .before .before .before .before .before .before .before .before .before .before .before .before .before .before .before .before .before .before .before .if2 .left) (c .before .before .before .before .before .before .before .before .before .before .before .before .before .before .before .before .before .before .before .before .slot .ensures) (c .before .before .before .before .before .before .before .before .before .before .before .before .before .before .before .before .before .before .at .ensures) (c .before .before .before .before .before .before .before .before .before .before .before .before .before .before .before .before .before .if3 .left) (c .before .before .before .before .before .before .before .before .before .before .before .before .before .before .before .before .if4 .left) (c .before .before .before .before .before .before .before .before .before .before .before .before .before .before .before .if5 .left) (c .before .before .before .before .before .before .before .before .before .before .before .before .before .set .ensures) (c .before .before .before .before .before .before .before .before .rule .ensures) (c .before .before .before .before .before .before .before .before .rule .kept .1 .1 .1 .0) (c .before .before .cached .ensures)
 
 pub +again+children+each+expand+fallback+gathered+inner+inter+retry+rule+visit-spec :
     {M : Type 1} → statement M
@@ -366,12 +357,10 @@ pub +again+children+each+expand+fallback+gathered+inner+inter+retry+rule+visit-s
     (λ c _. search needs)
     (λ c _. search needs)
     (λ c. search needs)
-    (λ c. search needs)
     (again-returns t)
     (λ c _. search needs)
     (λ c. search needs)
     (again-returns-2 t)
-    (λ c. search needs)
     (λ c. search needs)
     (λ c. search needs)
     (again-returns-3 t)
@@ -382,7 +371,6 @@ pub +again+children+each+expand+fallback+gathered+inner+inter+retry+rule+visit-s
     (λ c _. search needs)
     (λ c _. search needs)
     (λ c _. search needs)
-    (λ c. search needs)
     (λ c. search needs)
     (λ c. search needs)
     (children-returns t))
@@ -406,9 +394,7 @@ pub +again+children+each+expand+fallback+gathered+inner+inter+retry+rule+visit-s
     (λ c. search needs)
     (λ c. search needs)
     (λ c. search needs)
-    (λ c. search needs)
     (each-returns t)
-    (λ c. search needs)
     (λ c. search needs)
     (λ c. search needs)
     (each-returns-2 t))
@@ -422,13 +408,10 @@ pub +again+children+each+expand+fallback+gathered+inner+inter+retry+rule+visit-s
     (λ c. search needs)
     (λ c. search needs)
     (λ c. search needs)
-    (λ c. search needs)
     (expand-returns t)
     (λ c. search needs)
     (λ c. search needs)
-    (λ c. search needs)
     (expand-returns-2 t)
-    (λ c. search needs)
     (λ c. search needs)
     (λ c. search needs)
     (expand-returns-3 t))
@@ -437,12 +420,10 @@ pub +again+children+each+expand+fallback+gathered+inner+inter+retry+rule+visit-s
     fallback.Post
     (λ c _. search needs)
     (λ c. search needs)
-    (λ c. search needs)
     (fallback-returns t)
     (λ c _. search needs)
     (λ c _. search needs)
     (λ c _. search needs)
-    (λ c. search needs)
     (λ c. search needs)
     (λ c. search needs)
     (fallback-returns-2 t)
@@ -450,7 +431,6 @@ pub +again+children+each+expand+fallback+gathered+inner+inter+retry+rule+visit-s
     (λ c. search needs)
     (λ c _. search needs)
     (λ c _. search needs)
-    (λ c. search needs)
     (λ c. search needs)
     (λ c. search needs)
     (fallback-returns-3 t))
@@ -462,7 +442,6 @@ pub +again+children+each+expand+fallback+gathered+inner+inter+retry+rule+visit-s
     (λ c _. search needs)
     (λ c. search needs)
     (λ c. search needs)
-    (λ c. search needs)
     (gathered-returns t))
     (λ t. inner-lts.spec (inner-calls t)
     (inner-at t)
@@ -470,7 +449,6 @@ pub +again+children+each+expand+fallback+gathered+inner+inter+retry+rule+visit-s
     (λ c _. search needs)
     (λ c. search needs)
     (λ c _. search needs)
-    (λ c. search needs)
     (λ c. search needs)
     (λ c. search needs)
     (inner-returns t)
@@ -485,11 +463,9 @@ pub +again+children+each+expand+fallback+gathered+inner+inter+retry+rule+visit-s
     (λ c _. search needs)
     (λ c. search needs)
     (λ c. search needs)
-    (λ c. search needs)
     (inner-returns-2 t)
     (λ c. search needs)
     (λ c. search needs)
-    (inner-same-length-9 t)
     (inner-returns-3 t))
     (λ t. inter-lts.spec (inter-calls t)
     (inter-at t)
@@ -500,7 +476,6 @@ pub +again+children+each+expand+fallback+gathered+inner+inter+retry+rule+visit-s
     (inter-again-requires t)
     (λ c. search needs)
     (λ c. search needs)
-    (inter-same-length-3 t)
     (inter-returns t))
     (λ t. retry-lts.spec (retry-calls t)
     (retry-at t)
@@ -513,7 +488,6 @@ pub +again+children+each+expand+fallback+gathered+inner+inter+retry+rule+visit-s
     (λ c _. search needs)
     (λ c. search needs)
     (λ c. search needs)
-    (retry-same-length-3 t)
     (retry-returns t))
     (λ t. rule-lts.spec (rule-calls t)
     (rule-at t)
@@ -527,13 +501,10 @@ pub +again+children+each+expand+fallback+gathered+inner+inter+retry+rule+visit-s
     (λ c _. search needs)
     (λ c. search needs)
     (λ c. search needs)
-    (λ c. search needs)
     (rule-returns t)
     (λ c. search needs)
     (λ c. search needs)
-    (λ c. search needs)
     (rule-returns-2 t)
-    (λ c. search needs)
     (λ c. search needs)
     (λ c. search needs)
     (rule-returns-3 t))
@@ -542,19 +513,16 @@ pub +again+children+each+expand+fallback+gathered+inner+inter+retry+rule+visit-s
     visit.Post
     (λ c _. search needs)
     (λ c. search needs)
-    (λ c. search needs)
     (visit-returns t)
     (λ c _. search needs)
     (λ c _. search needs)
     (λ c _. search needs)
     (λ c _. search needs)
     (λ c. search needs)
-    (λ c. search needs)
     (visit-returns-2 t)
     (λ c _. search needs)
     (λ c _. search needs)
     (λ c _. search needs)
-    (λ c. search needs)
     (λ c. search needs)
     (λ c. search needs)
     (visit-returns-3 t)
@@ -567,7 +535,6 @@ pub +again+children+each+expand+fallback+gathered+inner+inter+retry+rule+visit-s
     (λ c. search needs)
     (λ c _. search needs)
     (λ c _. search needs)
-    (λ c. search needs)
     (λ c. search needs)
     (λ c. search needs)
     (visit-returns-6 t)

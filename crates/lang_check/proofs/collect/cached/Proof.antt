@@ -1,4 +1,4 @@
-use Rattle.lang_check.proofs.Stepping.{caches-node, caches-refused}
+use Rattle.lang_check.proofs.Steps.{caches-node, caches-refused}
 use borrow.Author.Needs.{needs}
 use Rattle.lang_check.proofs.collect.cached.Statement.{statement}
 use Rattle.lang_check.proofs.collect.cached.Tie as tie

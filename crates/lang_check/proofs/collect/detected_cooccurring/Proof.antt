@@ -1,14 +1,14 @@
-use Rattle.lang_check.proofs.Passing.{Detecting, detecting-start, detecting-more, detecting-done}
+use Rattle.lang_check.proofs.Passes.{Detecting, detecting-start, detecting-more, detecting-done}
 use Prim.Native.Nat.{_-_}
 use borrow.Author.Needs.{needs}
 use Rattle.lang_check.proofs.collect.detected_cooccurring.Statement.{statement}
 use Rattle.lang_check.proofs.collect.detected_cooccurring.Tie as tie
 
 abbrev Inv-loop : tie.InvT-loop
-Inv-loop facts₀ work count any₀ i₀ facts any i = Detecting facts₀ work count facts any i
+Inv-loop table₀ work count any₀ i₀ table any i = Detecting table₀ work count table any i
 
 abbrev μ-loop : tie.MeasureT-loop
-μ-loop facts₀ work count any₀ i₀ facts any i = count - i
+μ-loop table₀ work count any₀ i₀ table any i = count - i
 
 loop-holds : tie.Need-loop-holds Inv-loop μ-loop
 loop-holds c = detecting-start

@@ -1,4 +1,4 @@
-use Rattle.lang_check.proofs.Stepping.{either-first, either-second}
+use Rattle.lang_check.proofs.Steps.{either-first, either-second}
 use borrow.Author.Needs.{needs}
 use Rattle.lang_check.proofs.collect.either_variable.Statement.{statement}
 use Rattle.lang_check.proofs.collect.either_variable.Tie as tie

@@ -1,4 +1,4 @@
-use Rattle.lang_check.proofs.Stepping.{cut-none, cut-not, cut-begun}
+use Rattle.lang_check.proofs.Steps.{cut-none, cut-not, cut-begun}
 use borrow.Author.Tests.{not-true, not-false}
 use borrow.Author.Needs.{needs}
 use Rattle.lang_check.proofs.collect.is_cut.Statement.{statement}

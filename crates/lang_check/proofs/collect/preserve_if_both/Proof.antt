@@ -1,4 +1,4 @@
-use Rattle.lang_check.proofs.Stepping.{preserves-both, preserves-not}
+use Rattle.lang_check.proofs.Steps.{preserves-both, preserves-not}
 use borrow.Author.Needs.{needs}
 use Rattle.lang_check.proofs.collect.preserve_if_both.Statement.{statement}
 use Rattle.lang_check.proofs.collect.preserve_if_both.Tie as tie

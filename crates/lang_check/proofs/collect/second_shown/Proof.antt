@@ -1,4 +1,4 @@
-use Rattle.lang_check.proofs.Passing.{second-node, second-refused}
+use Rattle.lang_check.proofs.Passes.{second-node, second-refused}
 use borrow.Author.Needs.{needs}
 use Rattle.lang_check.proofs.collect.second_shown.Statement.{statement}
 use Rattle.lang_check.proofs.collect.second_shown.Tie as tie

@@ -1,5 +1,4 @@
-use Rattle.lang_check.proofs.Stepping.{side-first, side-other}
-use borrow.Author.Needs.{needs}
+use Rattle.lang_check.proofs.Steps.{side-first, side-other}
 use Rattle.lang_check.proofs.collect.side.Statement.{statement}
 use Rattle.lang_check.proofs.collect.side.Tie as tie
 

@@ -1,4 +1,4 @@
-use Rattle.lang_check.proofs.Making.{made-lambda, made-set, made-union, made-one, made-refused}
+use Rattle.lang_check.proofs.MadeOf.{made-lambda, made-set, made-union, made-one, made-refused}
 use borrow.Author.Needs.{needs}
 use Rattle.lang_check.proofs.made.made.Statement.{statement}
 use Rattle.lang_check.proofs.made.made.Tie as tie
@@ -36,17 +36,13 @@ made-spec =
     (λ c. search needs)
     (λ c. search needs)
     (λ c. search needs)
-    (λ c. search needs)
     returns
-    (λ c. search needs)
     (λ c. search needs)
     (λ c. search needs)
     returns-2
     (λ c. search needs)
     (λ c. search needs)
-    (λ c. search needs)
     returns-3
-    (λ c. search needs)
     (λ c. search needs)
     (λ c. search needs)
     returns-4

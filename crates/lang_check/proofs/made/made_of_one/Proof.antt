@@ -1,4 +1,4 @@
-use Rattle.lang_check.proofs.Making.{one-primitive, one-tyvar, one-list, one-neg, one-named, one-refused}
+use Rattle.lang_check.proofs.MadeOf.{one-primitive, one-tyvar, one-list, one-neg, one-named, one-refused}
 use borrow.Author.Needs.{needs}
 use Rattle.lang_check.proofs.made.made_of_one.Statement.{statement}
 use Rattle.lang_check.proofs.made.made_of_one.Tie as tie
@@ -38,21 +38,16 @@ made-of-one-spec =
     (λ c _. search needs)
     (λ c. search needs)
     (λ c. search needs)
-    (λ c. search needs)
     returns
-    (λ c. search needs)
     (λ c. search needs)
     (λ c. search needs)
     returns-2
     (λ c. search needs)
     (λ c. search needs)
-    (λ c. search needs)
     returns-3
     (λ c. search needs)
     (λ c. search needs)
-    (λ c. search needs)
     returns-4
-    (λ c. search needs)
     (λ c. search needs)
     (λ c. search needs)
     returns-5

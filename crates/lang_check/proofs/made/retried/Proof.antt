@@ -1,4 +1,4 @@
-use Rattle.lang_check.proofs.Making.{retried-node, retried-bottom, retried-refused}
+use Rattle.lang_check.proofs.MadeOf.{retried-node, retried-bottom, retried-refused}
 use borrow.Author.Needs.{needs}
 use Rattle.lang_check.proofs.made.retried.Statement.{statement}
 use Rattle.lang_check.proofs.made.retried.Tie as tie
@@ -21,7 +21,6 @@ retried-spec =
     (λ c _. search needs)
     (λ c. search needs)
     returns
-    (λ c. search needs)
     (λ c. search needs)
     returns-2
     returns-3)

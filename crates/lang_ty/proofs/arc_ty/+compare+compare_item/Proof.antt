@@ -1,5 +1,5 @@
 use Prim.Native.Nat.{_*_, _+_, _-_}
-use Rattle.lang_ty.proofs.Ordering.{Ordered, ordered-start, ordered-more, ordered-less, ordered-greater, ordered-done, kinds-decide, at-same, at-never, at-end, at-num, at-child-end, at-child-num, at-deeper}
+use Rattle.lang_ty.proofs.Compare.{Ordered, ordered-start, ordered-more, ordered-less, ordered-greater, ordered-done, kinds-decide, at-same, at-never, at-end, at-num, at-child-end, at-child-num, at-deeper}
 use borrow.Author.Needs.{needs}
 use Prim.Native.Nat.{ℕ, _<_}
 use borrow.Fn.Kinds.{In}
@@ -19,35 +19,35 @@ use Rattle.lang_ty.proofs.arena.kind.Reads as kind-reads
 use Rattle.lang_ty.proofs.arc_ty.+compare+compare_item.{statement}
 use Rattle.lang_ty.proofs.arc_ty.+compare+compare_item.Tie.{close}
 
-abbrev μ-compare : Measures 2 compare-kinds.ps ℕ
-μ-compare κs a = 2 * a .1 .1 .0 + 1
+abbrev μ-compare : Measures 1 compare-kinds.ps ℕ
+μ-compare κs a = 2 * a .1 .0 + 1
 
-abbrev μ-compare-item : Measures 2 compare-item-kinds.ps ℕ
-μ-compare-item κs a = 2 * a .1 .1 .0
+abbrev μ-compare-item : Measures 1 compare-item-kinds.ps ℕ
+μ-compare-item κs a = 2 * a .1 .0
 
-abbrev compare-at : ℕ → In 2 compare-kinds.ps
-compare-at t = and 2 compare-kinds.ps (is 2 compare-kinds.ps μ-compare t) compare.Pre
+abbrev compare-at : ℕ → In 1 compare-kinds.ps
+compare-at t = and 1 compare-kinds.ps (is 1 compare-kinds.ps μ-compare t) compare.Pre
 
-abbrev compare-below : ℕ → In 2 compare-kinds.ps
-compare-below t = and 2 compare-kinds.ps (falls 2 compare-kinds.ps _<_ μ-compare t) compare.Pre
+abbrev compare-below : ℕ → In 1 compare-kinds.ps
+compare-below t = and 1 compare-kinds.ps (falls 1 compare-kinds.ps _<_ μ-compare t) compare.Pre
 
-abbrev compare-item-at : ℕ → In 2 compare-item-kinds.ps
+abbrev compare-item-at : ℕ → In 1 compare-item-kinds.ps
 compare-item-at t =
-    and 2 compare-item-kinds.ps (is 2 compare-item-kinds.ps μ-compare-item t) compare-item.Pre
+    and 1 compare-item-kinds.ps (is 1 compare-item-kinds.ps μ-compare-item t) compare-item.Pre
 
-abbrev compare-item-below : ℕ → In 2 compare-item-kinds.ps
+abbrev compare-item-below : ℕ → In 1 compare-item-kinds.ps
 compare-item-below t =
     and
-    2
+    1
     compare-item-kinds.ps
-    (falls 2 compare-item-kinds.ps _<_ μ-compare-item t)
+    (falls 1 compare-item-kinds.ps _<_ μ-compare-item t)
     compare-item.Pre
 
 abbrev compare-Inv-loop : compare-lts.InvT-loop
-compare-Inv-loop starts words a b j k n m l i₀ i = Ordered starts words a b l i
+compare-Inv-loop arena a b j k n m l i₀ i = Ordered arena a b l i
 
 abbrev compare-μ-loop : compare-lts.MeasureT-loop
-compare-μ-loop starts words a b j k n m l i₀ i = l - i
+compare-μ-loop arena a b j k n m l i₀ i = l - i
 
 -- what `compare` is told of the functions that it calls
 abbrev compare-calls : ℕ → compare-lts.Claims

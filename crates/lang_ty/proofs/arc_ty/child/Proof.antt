@@ -1,4 +1,4 @@
-use Rattle.lang_ty.proofs.Childing.{child-word, child-field, child-dyn}
+use Rattle.lang_ty.proofs.Children.{child-word, child-field, child-dyn}
 use borrow.Author.Needs.{needs}
 use Rattle.lang_ty.proofs.arc_ty.child.Statement.{statement}
 use Rattle.lang_ty.proofs.arc_ty.child.Tie as tie

@@ -1,4 +1,4 @@
-use Rattle.lang_ty.proofs.Childing.{children-set, children-lambda, children-list, children-named, children-neg, children-members}
+use Rattle.lang_ty.proofs.Children.{children-set, children-lambda, children-list, children-named, children-neg, children-members}
 use borrow.Author.Needs.{needs}
 use Rattle.lang_ty.proofs.arc_ty.children.Statement.{statement}
 use Rattle.lang_ty.proofs.arc_ty.children.Tie as tie

@@ -1,4 +1,4 @@
-use Rattle.lang_ty.proofs.Itemizing.{less-is, equal-is, greater-is}
+use Rattle.lang_ty.proofs.Items.{less-is, equal-is, greater-is}
 use Rattle.lang_ty.proofs.arc_ty.compare_numbers.Statement.{statement}
 use Rattle.lang_ty.proofs.arc_ty.compare_numbers.Tie as tie
 

@@ -1,4 +1,4 @@
-use Rattle.lang_ty.proofs.Ordering.{end-end, end-num, end-child, num-end, num-num, num-child, child-any}
+use Rattle.lang_ty.proofs.Compare.{end-end, end-num, end-child, num-end, num-num, num-child, child-any}
 use borrow.Author.Needs.{needs}
 use Rattle.lang_ty.proofs.arc_ty.compare_plain.Statement.{statement}
 use Rattle.lang_ty.proofs.arc_ty.compare_plain.Tie as tie

@@ -1,4 +1,4 @@
-use Rattle.lang_ty.proofs.Childing.{first-list, first-lambda, first-neg, first-other}
+use Rattle.lang_ty.proofs.Children.{first-list, first-lambda, first-neg, first-other}
 use Rattle.lang_ty.proofs.arc_ty.first_child.Statement.{statement}
 use Rattle.lang_ty.proofs.arc_ty.first_child.Tie as tie
 

@@ -1,4 +1,4 @@
-use Rattle.lang_ty.proofs.Itemizing.{item-set, item-union, item-intersection, item-plain}
+use Rattle.lang_ty.proofs.Items.{item-set, item-union, item-intersection, item-plain}
 use borrow.Author.Needs.{needs}
 use Rattle.lang_ty.proofs.arc_ty.item_at.Statement.{statement}
 use Rattle.lang_ty.proofs.arc_ty.item_at.Tie as tie

@@ -1,4 +1,4 @@
-use Rattle.lang_ty.proofs.Itemizing.{items-set, items-union, items-intersection, items-plain}
+use Rattle.lang_ty.proofs.Items.{items-set, items-union, items-intersection, items-plain}
 use borrow.Author.Needs.{needs}
 use Rattle.lang_ty.proofs.arc_ty.items.Statement.{statement}
 use Rattle.lang_ty.proofs.arc_ty.items.Tie as tie

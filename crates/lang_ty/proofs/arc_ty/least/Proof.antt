@@ -1,4 +1,4 @@
-use Rattle.lang_ty.proofs.Itemizing.{least-first, least-second}
+use Rattle.lang_ty.proofs.Items.{least-first, least-second}
 use Rattle.lang_ty.proofs.arc_ty.least.Statement.{statement}
 use Rattle.lang_ty.proofs.arc_ty.least.Tie as tie
 

@@ -1,4 +1,4 @@
-use Rattle.lang_ty.proofs.Itemizing.{list-child-is, list-end-is}
+use Rattle.lang_ty.proofs.Items.{list-child-is, list-end-is}
 use borrow.Author.Needs.{needs}
 use Rattle.lang_ty.proofs.arc_ty.list_item.Statement.{statement}
 use Rattle.lang_ty.proofs.arc_ty.list_item.Tie as tie

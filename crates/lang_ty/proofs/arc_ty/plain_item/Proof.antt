@@ -1,4 +1,4 @@
-use Rattle.lang_ty.proofs.Itemizing.{plain-number, plain-child, plain-name, plain-type}
+use Rattle.lang_ty.proofs.Items.{plain-number, plain-child, plain-name, plain-type}
 use Rattle.lang_ty.proofs.arc_ty.plain_item.Statement.{statement}
 use Rattle.lang_ty.proofs.arc_ty.plain_item.Tie as tie
 

@@ -1,4 +1,4 @@
-use Rattle.lang_ty.proofs.Itemizing.{plain-lambda, plain-named, plain-one, plain-none}
+use Rattle.lang_ty.proofs.Items.{plain-lambda, plain-named, plain-one, plain-none}
 use Rattle.lang_ty.proofs.arc_ty.plain_items.Statement.{statement}
 use Rattle.lang_ty.proofs.arc_ty.plain_items.Tie as tie
 

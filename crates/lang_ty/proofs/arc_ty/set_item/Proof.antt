@@ -1,4 +1,4 @@
-use Rattle.lang_ty.proofs.Itemizing.{set-end-is, set-rest-is, set-key-is, set-type-is}
+use Rattle.lang_ty.proofs.Items.{set-end-is, set-rest-is, set-key-is, set-type-is}
 use borrow.Author.Needs.{needs}
 use Rattle.lang_ty.proofs.arc_ty.set_item.Statement.{statement}
 use Rattle.lang_ty.proofs.arc_ty.set_item.Tie as tie

@@ -1,4 +1,4 @@
-use Rattle.lang_ty.proofs.Itemizing.{set-items-is}
+use Rattle.lang_ty.proofs.Items.{set-items-is}
 use borrow.Author.Needs.{needs}
 use Rattle.lang_ty.proofs.arc_ty.set_items.Statement.{statement}
 use Rattle.lang_ty.proofs.arc_ty.set_items.Tie as tie

@@ -1,4 +1,4 @@
-use Rattle.lang_ty.proofs.Itemizing.{rest-none-is, rest-dyn-is, rest-open-is, rest-optional-is, rest-end-is}
+use Rattle.lang_ty.proofs.Items.{rest-none-is, rest-dyn-is, rest-open-is, rest-optional-is, rest-end-is}
 use borrow.Author.Needs.{needs}
 use Rattle.lang_ty.proofs.arc_ty.set_rest.Statement.{statement}
 use Rattle.lang_ty.proofs.arc_ty.set_rest.Tie as tie

@@ -1,4 +1,4 @@
-use Rattle.lang_ty.proofs.Writing.{Copying, copying-start, copying-more, copying-done}
+use Rattle.lang_ty.proofs.Rows.{Copying, copying-start, copying-more, copying-done}
 use Prim.Native.Nat.{_-_}
 use borrow.Author.Needs.{needs}
 use Rattle.lang_ty.proofs.arena.copy.Statement.{statement}

@@ -1,4 +1,4 @@
-use Rattle.lang_ty.proofs.Writing.{copied}
+use Rattle.lang_ty.proofs.Rows.{copied}
 use borrow.Author.Needs.{needs}
 use Rattle.lang_ty.proofs.arena.copy_one.Statement.{statement}
 use Rattle.lang_ty.proofs.arena.copy_one.Tie as tie

@@ -1,4 +1,4 @@
-use Rattle.lang_ty.proofs.Reading.{count-union, count-intersection, count-none}
+use Rattle.lang_ty.proofs.Words.{count-union, count-intersection, count-none}
 use borrow.Author.Needs.{needs}
 use Rattle.lang_ty.proofs.arena.count.Statement.{statement}
 use Rattle.lang_ty.proofs.arena.count.Tie as tie

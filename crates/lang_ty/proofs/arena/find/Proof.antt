@@ -1,14 +1,14 @@
 use Prim.Native.Nat.{_-_}
-use Rattle.lang_ty.proofs.Finding.{Seeking, seeking-start, seeking-here, seeking-more, seeking-done}
+use Rattle.lang_ty.proofs.Find.{Seeking, seeking-start, seeking-here, seeking-more, seeking-done}
 use borrow.Author.Needs.{needs}
 use Rattle.lang_ty.proofs.arena.find.Statement.{statement}
 use Rattle.lang_ty.proofs.arena.find.Tie as tie
 
 abbrev Inv-loop : tie.InvT-loop
-Inv-loop starts words nodes top len i₀ i = Seeking starts words nodes top len i
+Inv-loop arena nodes top len i₀ i = Seeking arena nodes top len i
 
 abbrev μ-loop : tie.MeasureT-loop
-μ-loop starts words nodes top len i₀ i = nodes - i
+μ-loop arena nodes top len i₀ i = nodes - i
 
 loop-holds : tie.Need-loop-holds Inv-loop μ-loop
 loop-holds c = search seeking-start

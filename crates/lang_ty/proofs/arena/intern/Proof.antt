@@ -1,4 +1,4 @@
-use Rattle.lang_ty.proofs.Keeping.{interned-old, interned-new}
+use Rattle.lang_ty.proofs.Intern.{interned-old, interned-new}
 use borrow.Author.Needs.{needs}
 use Rattle.lang_ty.proofs.arena.intern.Statement.{statement}
 use Rattle.lang_ty.proofs.arena.intern.Tie as tie

@@ -1,4 +1,4 @@
-use Rattle.lang_ty.proofs.Reading.{is-is}
+use Rattle.lang_ty.proofs.Words.{is-is}
 use borrow.Author.Needs.{needs}
 use Rattle.lang_ty.proofs.arena.is.Statement.{statement}
 use Rattle.lang_ty.proofs.arena.is.Tie as tie

@@ -1,4 +1,4 @@
-use Rattle.lang_ty.proofs.Keeping.{kept-full, kept-over, kept-new}
+use Rattle.lang_ty.proofs.Intern.{kept-full, kept-over, kept-new}
 use borrow.Author.Needs.{needs}
 use Rattle.lang_ty.proofs.arena.keep.Statement.{statement}
 use Rattle.lang_ty.proofs.arena.keep.Tie as tie

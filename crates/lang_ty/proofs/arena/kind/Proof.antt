@@ -1,4 +1,4 @@
-use Rattle.lang_ty.proofs.Reading.{kind-is}
+use Rattle.lang_ty.proofs.Words.{kind-is}
 use borrow.Author.Needs.{needs}
 use Rattle.lang_ty.proofs.arena.kind.Statement.{statement}
 use Rattle.lang_ty.proofs.arena.kind.Tie as tie

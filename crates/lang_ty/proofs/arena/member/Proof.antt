@@ -1,4 +1,4 @@
-use Rattle.lang_ty.proofs.Reading.{member-is}
+use Rattle.lang_ty.proofs.Words.{member-is}
 use borrow.Author.Needs.{needs}
 use Rattle.lang_ty.proofs.arena.member.Statement.{statement}
 use Rattle.lang_ty.proofs.arena.member.Tie as tie

@@ -1,4 +1,4 @@
-use Rattle.lang_ty.proofs.Finding.{row-other, row-same}
+use Rattle.lang_ty.proofs.Find.{row-other, row-same}
 use borrow.Author.Needs.{needs}
 use Rattle.lang_ty.proofs.arena.row_is.Statement.{statement}
 use Rattle.lang_ty.proofs.arena.row_is.Tie as tie

@@ -1,5 +1,5 @@
 use Prim.Native.Nat.{_-_}
-use Rattle.lang_ty.proofs.Finding.{Comparing, comparing-start, comparing-more, comparing-other, comparing-done}
+use Rattle.lang_ty.proofs.Find.{Comparing, comparing-start, comparing-more, comparing-other, comparing-done}
 use borrow.Author.Needs.{needs}
 use Rattle.lang_ty.proofs.arena.same.Statement.{statement}
 use Rattle.lang_ty.proofs.arena.same.Tie as tie

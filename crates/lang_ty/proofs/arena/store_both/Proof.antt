@@ -1,4 +1,4 @@
-use Rattle.lang_ty.proofs.Writing.{stored-four}
+use Rattle.lang_ty.proofs.Rows.{stored-four}
 use borrow.Author.Needs.{needs}
 use Rattle.lang_ty.proofs.arena.store_both.Statement.{statement}
 use Rattle.lang_ty.proofs.arena.store_both.Tie as tie
@@ -15,6 +15,5 @@ store-both-spec =
     (λ c _. search needs)
     (λ c _. search needs)
     (λ c _. search needs)
-    (λ c. search needs)
     (λ c. search needs)
     returns)

@@ -1,4 +1,4 @@
-use Rattle.lang_ty.proofs.Writing.{listed-many, listed-few}
+use Rattle.lang_ty.proofs.Rows.{listed-many, listed-few}
 use borrow.Author.Needs.{needs}
 use Rattle.lang_ty.proofs.arena.store_list.Statement.{statement}
 use Rattle.lang_ty.proofs.arena.store_list.Tie as tie
@@ -20,6 +20,5 @@ store-list-spec =
     (λ c _. search needs)
     (λ c. search needs)
     (λ c _. search needs)
-    (λ c. search needs)
     (λ c. search needs)
     returns-2)

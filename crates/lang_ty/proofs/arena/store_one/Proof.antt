@@ -1,4 +1,4 @@
-use Rattle.lang_ty.proofs.Writing.{stored-two}
+use Rattle.lang_ty.proofs.Rows.{stored-two}
 use borrow.Author.Needs.{needs}
 use Rattle.lang_ty.proofs.arena.store_one.Statement.{statement}
 use Rattle.lang_ty.proofs.arena.store_one.Tie as tie
@@ -8,5 +8,4 @@ returns c = search stored-two
 
 pub store-one-spec : {M : Type 1} → statement M
 store-one-spec =
-    tie.close
-    (tie.spec (λ c _. search needs) (λ c _. search needs) (λ c _. search needs) (λ c. search needs) (λ c. search needs) returns)
+    tie.close (tie.spec (λ c _. search needs) (λ c _. search needs) (λ c _. search needs) (λ c. search needs) returns)

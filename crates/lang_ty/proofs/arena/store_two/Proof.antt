@@ -1,4 +1,4 @@
-use Rattle.lang_ty.proofs.Writing.{stored-three}
+use Rattle.lang_ty.proofs.Rows.{stored-three}
 use borrow.Author.Needs.{needs}
 use Rattle.lang_ty.proofs.arena.store_two.Statement.{statement}
 use Rattle.lang_ty.proofs.arena.store_two.Tie as tie
@@ -15,6 +15,5 @@ store-two-spec =
     (λ c _. search needs)
     (λ c _. search needs)
     (λ c _. search needs)
-    (λ c. search needs)
     (λ c. search needs)
     returns)

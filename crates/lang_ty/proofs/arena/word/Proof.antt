@@ -1,4 +1,4 @@
-use Rattle.lang_ty.proofs.Reading.{word-is}
+use Rattle.lang_ty.proofs.Words.{word-is}
 use borrow.Author.Needs.{needs}
 use Rattle.lang_ty.proofs.arena.word.Statement.{statement}
 use Rattle.lang_ty.proofs.arena.word.Tie as tie

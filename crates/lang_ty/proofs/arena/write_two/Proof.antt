@@ -1,4 +1,4 @@
-use Rattle.lang_ty.proofs.Writing.{written-two}
+use Rattle.lang_ty.proofs.Rows.{written-two}
 use borrow.Author.Needs.{needs}
 use Rattle.lang_ty.proofs.arena.write_two.Statement.{statement}
 use Rattle.lang_ty.proofs.arena.write_two.Tie as tie

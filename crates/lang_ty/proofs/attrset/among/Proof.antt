@@ -1,4 +1,4 @@
-use Rattle.lang_ty.proofs.Setting.{Looking, looking-start, looking-here, looking-more, looking-done}
+use Rattle.lang_ty.proofs.Attrsets.{Looking, looking-start, looking-here, looking-more, looking-done}
 use Prim.Native.Nat.{_-_}
 use borrow.Author.Needs.{needs}
 use Rattle.lang_ty.proofs.attrset.among.Statement.{statement}

@@ -1,4 +1,4 @@
-use Rattle.lang_ty.proofs.Setting.{dyn-place-is}
+use Rattle.lang_ty.proofs.Attrsets.{dyn-place-is}
 use borrow.Author.Needs.{needs}
 use Rattle.lang_ty.proofs.attrset.dyn_place.Statement.{statement}
 use Rattle.lang_ty.proofs.attrset.dyn_place.Tie as tie

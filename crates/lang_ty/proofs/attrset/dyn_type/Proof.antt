@@ -1,4 +1,4 @@
-use Rattle.lang_ty.proofs.Setting.{dyn-type-is}
+use Rattle.lang_ty.proofs.Attrsets.{dyn-type-is}
 use borrow.Author.Needs.{needs}
 use Rattle.lang_ty.proofs.attrset.dyn_type.Statement.{statement}
 use Rattle.lang_ty.proofs.attrset.dyn_type.Tie as tie

@@ -1,4 +1,4 @@
-use Rattle.lang_ty.proofs.Setting.{dyns-is}
+use Rattle.lang_ty.proofs.Attrsets.{dyns-is}
 use borrow.Author.Needs.{needs}
 use Rattle.lang_ty.proofs.attrset.dyns.Statement.{statement}
 use Rattle.lang_ty.proofs.attrset.dyns.Tie as tie

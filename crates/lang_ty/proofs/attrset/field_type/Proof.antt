@@ -1,4 +1,4 @@
-use Rattle.lang_ty.proofs.Setting.{field-type-is}
+use Rattle.lang_ty.proofs.Attrsets.{field-type-is}
 use borrow.Author.Needs.{needs}
 use Rattle.lang_ty.proofs.attrset.field_type.Statement.{statement}
 use Rattle.lang_ty.proofs.attrset.field_type.Tie as tie

@@ -1,4 +1,4 @@
-use Rattle.lang_ty.proofs.Setting.{fields-is}
+use Rattle.lang_ty.proofs.Attrsets.{fields-is}
 use borrow.Author.Needs.{needs}
 use Rattle.lang_ty.proofs.attrset.fields.Statement.{statement}
 use Rattle.lang_ty.proofs.attrset.fields.Tie as tie

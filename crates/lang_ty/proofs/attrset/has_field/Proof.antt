@@ -1,4 +1,4 @@
-use Rattle.lang_ty.proofs.Setting.{has-field-is}
+use Rattle.lang_ty.proofs.Attrsets.{has-field-is}
 use borrow.Author.Needs.{needs}
 use Rattle.lang_ty.proofs.attrset.has_field.Statement.{statement}
 use Rattle.lang_ty.proofs.attrset.has_field.Tie as tie

@@ -1,4 +1,4 @@
-use Rattle.lang_ty.proofs.Setting.{has-optional-is}
+use Rattle.lang_ty.proofs.Attrsets.{has-optional-is}
 use borrow.Author.Needs.{needs}
 use Rattle.lang_ty.proofs.attrset.has_optional.Statement.{statement}
 use Rattle.lang_ty.proofs.attrset.has_optional.Tie as tie

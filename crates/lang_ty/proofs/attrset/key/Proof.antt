@@ -1,4 +1,4 @@
-use Rattle.lang_ty.proofs.Setting.{key-is}
+use Rattle.lang_ty.proofs.Attrsets.{key-is}
 use borrow.Author.Needs.{needs}
 use Rattle.lang_ty.proofs.attrset.key.Statement.{statement}
 use Rattle.lang_ty.proofs.attrset.key.Tie as tie

@@ -1,4 +1,4 @@
-use Rattle.lang_ty.proofs.Setting.{open-is}
+use Rattle.lang_ty.proofs.Attrsets.{open-is}
 use borrow.Author.Needs.{needs}
 use Rattle.lang_ty.proofs.attrset.open.Statement.{statement}
 use Rattle.lang_ty.proofs.attrset.open.Tie as tie

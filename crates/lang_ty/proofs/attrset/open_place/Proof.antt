@@ -1,4 +1,4 @@
-use Rattle.lang_ty.proofs.Setting.{open-place-is}
+use Rattle.lang_ty.proofs.Attrsets.{open-place-is}
 use borrow.Author.Needs.{needs}
 use Rattle.lang_ty.proofs.attrset.open_place.Statement.{statement}
 use Rattle.lang_ty.proofs.attrset.open_place.Tie as tie

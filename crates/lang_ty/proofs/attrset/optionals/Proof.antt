@@ -1,4 +1,4 @@
-use Rattle.lang_ty.proofs.Setting.{optionals-is}
+use Rattle.lang_ty.proofs.Attrsets.{optionals-is}
 use borrow.Author.Needs.{needs}
 use Rattle.lang_ty.proofs.attrset.optionals.Statement.{statement}
 use Rattle.lang_ty.proofs.attrset.optionals.Tie as tie

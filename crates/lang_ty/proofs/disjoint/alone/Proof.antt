@@ -1,4 +1,4 @@
-use Rattle.lang_ty.proofs.Shaping.{alone-first, alone-second}
+use Rattle.lang_ty.proofs.Shapes.{alone-first, alone-second}
 use borrow.Author.Needs.{needs}
 use Rattle.lang_ty.proofs.disjoint.alone.Statement.{statement}
 use Rattle.lang_ty.proofs.disjoint.alone.Tie as tie

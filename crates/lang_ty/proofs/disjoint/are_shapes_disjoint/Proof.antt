@@ -1,4 +1,4 @@
-use Rattle.lang_ty.proofs.Shaping.{disjoint-first, disjoint-second, disjoint-same, disjoint-set-lambda, disjoint-set, disjoint-others, disjoint-lambda, disjoint-lambda-set}
+use Rattle.lang_ty.proofs.Shapes.{disjoint-first, disjoint-second, disjoint-same, disjoint-set-lambda, disjoint-set, disjoint-others, disjoint-lambda, disjoint-lambda-set}
 use borrow.Author.Needs.{needs}
 use Rattle.lang_ty.proofs.disjoint.are_shapes_disjoint.Statement.{statement}
 use Rattle.lang_ty.proofs.disjoint.are_shapes_disjoint.Tie as tie

@@ -1,4 +1,4 @@
-use Rattle.lang_ty.proofs.Shaping.{constructor-none, constructor-some}
+use Rattle.lang_ty.proofs.Shapes.{constructor-none, constructor-some}
 use Rattle.lang_ty.proofs.disjoint.is_constructor.Statement.{statement}
 use Rattle.lang_ty.proofs.disjoint.is_constructor.Tie as tie
 

@@ -1,4 +1,4 @@
-use Rattle.lang_ty.proofs.Shaping.{Lacking, lacks-open, lacking-start, lacking-here, lacking-more, lacking-done}
+use Rattle.lang_ty.proofs.Shapes.{Lacking, lacks-open, lacking-start, lacking-here, lacking-more, lacking-done}
 use Prim.Native.Nat.{_-_}
 use borrow.Author.Needs.{needs}
 use Rattle.lang_ty.proofs.disjoint.lacks.Statement.{statement}

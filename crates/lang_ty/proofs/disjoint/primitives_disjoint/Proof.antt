@@ -1,4 +1,4 @@
-use Rattle.lang_ty.proofs.Shaping.{apart-equal, apart-below, apart-last}
+use Rattle.lang_ty.proofs.Shapes.{apart-equal, apart-below, apart-last}
 use borrow.Author.Needs.{needs}
 use Rattle.lang_ty.proofs.disjoint.primitives_disjoint.Statement.{statement}
 use Rattle.lang_ty.proofs.disjoint.primitives_disjoint.Tie as tie

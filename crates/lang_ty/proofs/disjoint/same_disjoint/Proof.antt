@@ -1,4 +1,4 @@
-use Rattle.lang_ty.proofs.Shaping.{same-primitive, same-plain, same-first, same-second}
+use Rattle.lang_ty.proofs.Shapes.{same-primitive, same-plain, same-first, same-second}
 use borrow.Author.Needs.{needs}
 use Rattle.lang_ty.proofs.disjoint.same_disjoint.Statement.{statement}
 use Rattle.lang_ty.proofs.disjoint.same_disjoint.Tie as tie

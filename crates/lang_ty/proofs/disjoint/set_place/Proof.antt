@@ -1,4 +1,4 @@
-use Rattle.lang_ty.proofs.Shaping.{set-place-is}
+use Rattle.lang_ty.proofs.Shapes.{set-place-is}
 use borrow.Author.Needs.{needs}
 use Rattle.lang_ty.proofs.disjoint.set_place.Statement.{statement}
 use Rattle.lang_ty.proofs.disjoint.set_place.Tie as tie

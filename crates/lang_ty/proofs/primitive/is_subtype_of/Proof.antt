@@ -1,4 +1,4 @@
-use Rattle.lang_ty.proofs.Shaping.{subtype-no, subtype-yes}
+use Rattle.lang_ty.proofs.Shapes.{subtype-no, subtype-yes}
 use Rattle.lang_ty.proofs.primitive.is_subtype_of.Statement.{statement}
 use Rattle.lang_ty.proofs.primitive.is_subtype_of.Tie as tie
 

@@ -6,10 +6,10 @@ use Rattle.listing.proofs.lines.node_lines.Statement.{statement}
 use Rattle.listing.proofs.lines.node_lines.Tie as tie
 
 abbrev Inv-loop : tie.InvT-loop
-Inv-loop starts words work out₀ at n p₀ k₀ out p k = (k ≤ n) × (length out ≡ length out₀)
+Inv-loop arena work out₀ at n p₀ k₀ out p k = (k ≤ n) × (length out ≡ length out₀)
 
 abbrev μ-loop : tie.MeasureT-loop
-μ-loop starts words work out₀ at n p₀ k₀ out p k = n - k
+μ-loop arena work out₀ at n p₀ k₀ out p k = n - k
 
 pub node-lines-spec : {M : Type 1} → statement M
 node-lines-spec =

@@ -18,20 +18,20 @@ use Rattle.lang_ty.proofs.arc_ty.children.Reads as children-reads
 use Rattle.listing.proofs.walk.+visit.{statement}
 use Rattle.listing.proofs.walk.+visit.Tie.{close}
 
-abbrev μ-visit : Measures 3 visit-kinds.ps ℕ
-μ-visit κs a = a .1 .1 .1 .0
+abbrev μ-visit : Measures 2 visit-kinds.ps ℕ
+μ-visit κs a = a .1 .1 .0
 
-abbrev visit-at : ℕ → In 3 visit-kinds.ps
-visit-at t = and 3 visit-kinds.ps (is 3 visit-kinds.ps μ-visit t) visit.Pre
+abbrev visit-at : ℕ → In 2 visit-kinds.ps
+visit-at t = and 2 visit-kinds.ps (is 2 visit-kinds.ps μ-visit t) visit.Pre
 
-abbrev visit-below : ℕ → In 3 visit-kinds.ps
-visit-below t = and 3 visit-kinds.ps (falls 3 visit-kinds.ps _<_ μ-visit t) visit.Pre
+abbrev visit-below : ℕ → In 2 visit-kinds.ps
+visit-below t = and 2 visit-kinds.ps (falls 2 visit-kinds.ps _<_ μ-visit t) visit.Pre
 
 abbrev visit-Inv-loop : visit-lts.InvT-loop
-visit-Inv-loop starts words work₀ x k n next₀ i₀ work next i = (i ≤ n) × (length work ≡ length work₀)
+visit-Inv-loop arena work₀ x k n next₀ i₀ work next i = (i ≤ n) × (length work ≡ length work₀)
 
 abbrev visit-μ-loop : visit-lts.MeasureT-loop
-visit-μ-loop starts words work₀ x k n next₀ i₀ work next i = n - i
+visit-μ-loop arena work₀ x k n next₀ i₀ work next i = n - i
 
 -- what `visit` is told of the functions that it calls
 abbrev visit-calls : ℕ → visit-lts.Claims

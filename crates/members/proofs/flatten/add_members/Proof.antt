@@ -1,4 +1,4 @@
-use Rattle.members.proofs.Flattening.{Adding, adding-start, adding-more, adding-done}
+use Rattle.members.proofs.Flattened.{Adding, adding-start, adding-more, adding-done}
 use borrow.Author.Needs.{needs}
 use Prim.Native.Nat.{_-_}
 use mathlib.Core.Path.{_≡_}
@@ -7,10 +7,10 @@ use Rattle.members.proofs.flatten.add_members.Statement.{statement}
 use Rattle.members.proofs.flatten.add_members.Tie as tie
 
 abbrev Inv-loop : tie.InvT-loop
-Inv-loop starts words out₀ k x n got₀ i₀ out got i = Adding starts words out₀ k x n out got i × (length out ≡ length out₀)
+Inv-loop arena out₀ k x n got₀ i₀ out got i = Adding arena out₀ k x n out got i × (length out ≡ length out₀)
 
 abbrev μ-loop : tie.MeasureT-loop
-μ-loop starts words out₀ k x n got₀ i₀ out got i = n - i
+μ-loop arena out₀ k x n got₀ i₀ out got i = n - i
 
 loop-holds : tie.Need-loop-holds Inv-loop μ-loop
 loop-holds c = (adding-start, search needs)

@@ -1,4 +1,4 @@
-use Rattle.members.proofs.Flattening.{new-full, new-there, new-here}
+use Rattle.members.proofs.Flattened.{new-full, new-there, new-here}
 use borrow.Author.Needs.{needs}
 use Rattle.members.proofs.flatten.add_new.Statement.{statement}
 use Rattle.members.proofs.flatten.add_new.Tie as tie

@@ -1,4 +1,4 @@
-use Rattle.members.proofs.Flattening.{Flattening, flattening-start, flattening-more, flattening-done}
+use Rattle.members.proofs.Flattened.{Flattening, flattening-start, flattening-more, flattening-done}
 use lib.ListN.{length}
 use mathlib.Core.Path.{_≡_}
 use Prim.Native.Nat.{_-_}
@@ -7,10 +7,10 @@ use Rattle.members.proofs.flatten.flatten_all.Statement.{statement}
 use Rattle.members.proofs.flatten.flatten_all.Tie as tie
 
 abbrev Inv-loop : tie.InvT-loop
-Inv-loop starts words kind ms n out₀ k₀ i₀ out k i = Flattening kind starts words ms n out k i × (length out ≡ length out₀)
+Inv-loop arena kind ms n out₀ k₀ i₀ out k i = Flattening kind arena ms n out k i × (length out ≡ length out₀)
 
 abbrev μ-loop : tie.MeasureT-loop
-μ-loop starts words kind ms n out₀ k₀ i₀ out k i = n - i
+μ-loop arena kind ms n out₀ k₀ i₀ out k i = n - i
 
 loop-holds : tie.Need-loop-holds Inv-loop μ-loop
 loop-holds c = (flattening-start, search needs)

@@ -1,4 +1,4 @@
-use Rattle.members.proofs.Flattening.{flat-few, flat-nested, flat-plain}
+use Rattle.members.proofs.Flattened.{flat-few, flat-nested, flat-plain}
 use borrow.Author.Needs.{needs}
 use Rattle.members.proofs.flatten.flatten_composite.Statement.{statement}
 use Rattle.members.proofs.flatten.flatten_composite.Tie as tie

@@ -1,4 +1,4 @@
-use Rattle.members.proofs.Flattening.{one-nested, one-plain}
+use Rattle.members.proofs.Flattened.{one-nested, one-plain}
 use borrow.Author.Needs.{needs}
 use Rattle.members.proofs.flatten.flatten_one.Statement.{statement}
 use Rattle.members.proofs.flatten.flatten_one.Tie as tie

@@ -1,15 +1,15 @@
 use Rattle.rules.specs.Types.{is}
-use Rattle.members.proofs.Gathering.{Searching, searching-start, searching-here, searching-more, searching-done, is-tried}
+use Rattle.members.proofs.Gathered.{Searching, searching-start, searching-here, searching-more, searching-done, is-tried}
 use borrow.Author.Needs.{needs}
 use Prim.Native.Nat.{_-_}
 use Rattle.members.proofs.lists.any_of_kind.Statement.{statement}
 use Rattle.members.proofs.lists.any_of_kind.Tie as tie
 
 abbrev Inv-loop : tie.InvT-loop
-Inv-loop starts words kind ms n i₀ i = Searching (λ ns xs. is ns kind) starts words ms n i
+Inv-loop arena kind ms n i₀ i = Searching (λ ns xs. is ns kind) arena ms n i
 
 abbrev μ-loop : tie.MeasureT-loop
-μ-loop starts words kind ms n i₀ i = n - i
+μ-loop arena kind ms n i₀ i = n - i
 
 loop-holds : tie.Need-loop-holds Inv-loop μ-loop
 loop-holds c = search searching-start

@@ -1,4 +1,4 @@
-use Rattle.members.proofs.Gathering.{listed-nothing, listed-one, listed-refused}
+use Rattle.members.proofs.Gathered.{listed-nothing, listed-one, listed-refused}
 use borrow.Author.Needs.{needs}
 use Rattle.members.proofs.lists.as_listed.Statement.{statement}
 use Rattle.members.proofs.lists.as_listed.Tie as tie

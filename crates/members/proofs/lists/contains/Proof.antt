@@ -1,4 +1,4 @@
-use Rattle.members.proofs.Gathering.{Containing, containing-start, containing-here, containing-more, containing-done}
+use Rattle.members.proofs.Gathered.{Containing, containing-start, containing-here, containing-more, containing-done}
 use borrow.Author.Needs.{needs}
 use Prim.Native.Nat.{_-_}
 use Rattle.members.proofs.lists.contains.Statement.{statement}

@@ -1,5 +1,5 @@
 use native.Mathlib.Omega.{arith}
-use Rattle.members.proofs.Gathering.{Filling, filling-start, filling-more, copied-is}
+use Rattle.members.proofs.Gathered.{Filling, filling-start, filling-more, copied-is}
 use borrow.Author.Needs.{needs}
 use Prim.Native.Nat.{_-_}
 use Rattle.members.proofs.lists.copy_into.Statement.{statement}

@@ -1,4 +1,4 @@
-use Rattle.members.proofs.Gathering.{grow-nothing, grow-one, grow-refused}
+use Rattle.members.proofs.Gathered.{grow-nothing, grow-one, grow-refused}
 use borrow.Author.Needs.{needs}
 use Rattle.members.proofs.lists.grow.Statement.{statement}
 use Rattle.members.proofs.lists.grow.Tie as tie

@@ -1,4 +1,4 @@
-use Rattle.members.proofs.Gathering.{Filling, filling-start, filling-more, held-is}
+use Rattle.members.proofs.Gathered.{Filling, filling-start, filling-more, held-is}
 use native.Mathlib.Omega.{arith}
 use borrow.Author.Needs.{needs}
 use Prim.Native.Nat.{_-_}

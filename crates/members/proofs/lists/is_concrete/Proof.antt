@@ -1,4 +1,4 @@
-use Rattle.members.proofs.Gathering.{concrete-is}
+use Rattle.members.proofs.Gathered.{concrete-is}
 use borrow.Author.Needs.{needs}
 use Rattle.members.proofs.lists.is_concrete.Statement.{statement}
 use Rattle.members.proofs.lists.is_concrete.Tie as tie

@@ -1,4 +1,4 @@
-use Rattle.members.proofs.Gathering.{positive-neg, positive-var, positive-bottom, positive-last}
+use Rattle.members.proofs.Gathered.{positive-neg, positive-var, positive-bottom, positive-last}
 use borrow.Author.Needs.{needs}
 use Rattle.members.proofs.lists.is_positive.Statement.{statement}
 use Rattle.members.proofs.lists.is_positive.Tie as tie

@@ -1,4 +1,4 @@
-use Rattle.members.proofs.Gathering.{joined-is}
+use Rattle.members.proofs.Gathered.{joined-is}
 use borrow.Author.Needs.{needs}
 use Rattle.members.proofs.lists.joined.Statement.{statement}
 use Rattle.members.proofs.lists.joined.Tie as tie

@@ -1,4 +1,4 @@
-use Rattle.members.proofs.Gathering.{keeps-not, keeps-one}
+use Rattle.members.proofs.Gathered.{keeps-not, keeps-one}
 use borrow.Author.Needs.{needs}
 use Rattle.members.proofs.lists.keep_if.Statement.{statement}
 use Rattle.members.proofs.lists.keep_if.Tie as tie

@@ -1,5 +1,5 @@
 use Rattle.members.specs.Lists.{ofKind}
-use Rattle.members.proofs.Gathering.{Sifting, sifting-start, sifting-more, sifting-done, asked}
+use Rattle.members.proofs.Gathered.{Sifting, sifting-start, sifting-more, sifting-done, asked}
 use borrow.Author.Needs.{needs}
 use Prim.Native.Nat.{_-_}
 use mathlib.Core.Path.{_≡_}
@@ -8,10 +8,10 @@ use Rattle.members.proofs.lists.of_kind.Statement.{statement}
 use Rattle.members.proofs.lists.of_kind.Tie as tie
 
 abbrev Inv-loop : tie.InvT-loop
-Inv-loop starts words kind wanted ms n out₀ k₀ i₀ out k i = Sifting (λ ns xs. ofKind kind wanted ns) starts words ms n out k i × (length out ≡ length out₀)
+Inv-loop arena kind wanted ms n out₀ k₀ i₀ out k i = Sifting (λ ns xs. ofKind kind wanted ns) arena ms n out k i × (length out ≡ length out₀)
 
 abbrev μ-loop : tie.MeasureT-loop
-μ-loop starts words kind wanted ms n out₀ k₀ i₀ out k i = n - i
+μ-loop arena kind wanted ms n out₀ k₀ i₀ out k i = n - i
 
 loop-holds : tie.Need-loop-holds Inv-loop μ-loop
 loop-holds c = (sifting-start, search needs)

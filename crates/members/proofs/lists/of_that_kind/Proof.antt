@@ -1,4 +1,4 @@
-use Rattle.members.proofs.Gathering.{kind-wanted, kind-unwanted}
+use Rattle.members.proofs.Gathered.{kind-wanted, kind-unwanted}
 use borrow.Author.Needs.{needs}
 use Rattle.members.proofs.lists.of_that_kind.Statement.{statement}
 use Rattle.members.proofs.lists.of_that_kind.Tie as tie

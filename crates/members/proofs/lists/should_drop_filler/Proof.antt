@@ -1,4 +1,4 @@
-use Rattle.members.proofs.Gathering.{drops-bottom, drops-top, drops-other, drops-past, drops-fact}
+use Rattle.members.proofs.Gathered.{drops-bottom, drops-top, drops-other, drops-past, drops-fact}
 use borrow.Author.Needs.{needs}
 use Rattle.members.proofs.lists.should_drop_filler.Statement.{statement}
 use Rattle.members.proofs.lists.should_drop_filler.Tie as tie

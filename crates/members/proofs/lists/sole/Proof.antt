@@ -1,4 +1,4 @@
-use Rattle.members.proofs.Gathering.{sole-none, sole-one, sole-stored, sole-refused}
+use Rattle.members.proofs.Gathered.{sole-none, sole-one, sole-stored, sole-refused}
 use borrow.Author.Needs.{needs}
 use Rattle.members.proofs.lists.sole.Statement.{statement}
 use Rattle.members.proofs.lists.sole.Tie as tie
@@ -27,8 +27,6 @@ sole-spec =
     (λ c. search needs)
     (λ c. search needs)
     (λ c. search needs)
-    (λ c. search needs)
     returns-3
-    (λ c. search needs)
     (λ c. search needs)
     returns-4)

@@ -1,4 +1,4 @@
-use Rattle.members.proofs.Gathering.{last-node, last-refused}
+use Rattle.members.proofs.Gathered.{last-node, last-refused}
 use borrow.Author.Needs.{needs}
 use Rattle.members.proofs.lists.with_last.Statement.{statement}
 use Rattle.members.proofs.lists.with_last.Tie as tie

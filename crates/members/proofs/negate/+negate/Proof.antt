@@ -1,9 +1,8 @@
-use Rattle.members.proofs.Negating.{Negating, negates-neg, negating-start, negates-never, negating-more, negates-refused, negates-done}
+use Rattle.members.proofs.Negated.{Negating, negates-neg, negating-start, negates-never, negating-more, negates-refused, negates-done}
 use native.Mathlib.Omega.{arith}
 use borrow.Author.Needs.{needs}
-use mathlib.Core.Path.{_≡_}
-use lib.ListN.{length}
-use Prim.Native.Nat.{ℕ, _<_, _*_, _+_, _-_}
+use Prim.Native.Nat.{ℕ, _<_, _-_}
+use Prim.Native.Nat.{ℕ, _<_}
 use borrow.Fn.Kinds.{In}
 use borrow.Fn.PlainCycle.{Measures, is, falls, and}
 use Rattle.members.proofs.negate.negate.Reads as negate
@@ -20,45 +19,45 @@ use Rattle.members.proofs.negate.store_negation.Reads as store-negation
 use Rattle.members.proofs.negate.+negate.{statement}
 use Rattle.members.proofs.negate.+negate.Tie.{close}
 
-abbrev μ-negate : Measures 3 negate-kinds.ps ℕ
-μ-negate κs a = a .1 .1 .1 .1 .0
+abbrev μ-negate : Measures 2 negate-kinds.ps ℕ
+μ-negate κs a = a .1 .1 .1 .0
 
-abbrev negate-at : ℕ → In 3 negate-kinds.ps
-negate-at t = and 3 negate-kinds.ps (is 3 negate-kinds.ps μ-negate t) negate.Pre
+abbrev negate-at : ℕ → In 2 negate-kinds.ps
+negate-at t = and 2 negate-kinds.ps (is 2 negate-kinds.ps μ-negate t) negate.Pre
 
-abbrev negate-below : ℕ → In 3 negate-kinds.ps
-negate-below t = and 3 negate-kinds.ps (falls 3 negate-kinds.ps _<_ μ-negate t) negate.Pre
+abbrev negate-below : ℕ → In 2 negate-kinds.ps
+negate-below t = and 2 negate-kinds.ps (falls 2 negate-kinds.ps _<_ μ-negate t) negate.Pre
 
 abbrev negate-Inv-loop : negate-lts.InvT-loop
-negate-Inv-loop starts₀ words₀ held₀ h x i₀ starts words held i = Negating starts₀ words₀ held₀ h x starts words held i
+negate-Inv-loop arena₀ held₀ h x i₀ arena held i = Negating arena₀ held₀ h x arena held i
 
 abbrev negate-μ-loop : negate-lts.MeasureT-loop
-negate-μ-loop starts₀ words₀ held₀ h x i₀ starts words held i = 4294967295 - i
+negate-μ-loop arena₀ held₀ h x i₀ arena held i = 4294967295 - i
 
 -- what `negate` is told of the functions that it calls
 abbrev negate-calls : ℕ → negate-lts.Claims
 negate-calls t = (is-reads.Asked, is-reads.Learnt, word-reads.Asked, word-reads.Learnt, count-reads.Asked, count-reads.Learnt, store-negation-reads.Asked, store-negation-reads.Learnt, member-reads.Asked, member-reads.Learnt, add-reads.Asked, add-reads.Learnt, negate-below t, negate.Post, place-reads.Asked, place-reads.Learnt, put-reads.Asked, put-reads.Learnt)
 
 negate-returns : (t : ℕ) → negate-lts.Need-returns (negate-calls t) (negate-at t) negate.Post negate-Inv-loop negate-μ-loop
-negate-returns t c = negates-neg (c .before .before .before .before .is .ensures) (c .before .before .before .if1 .taken) (c .word .ensures)
+negate-returns t c = negates-neg (c .before .before .before .is .ensures) (c .before .before .if1 .taken) (c .word .ensures)
 
 negate-returns-2 : (t : ℕ) → negate-lts.Need-returns-2 (negate-calls t) (negate-at t) negate.Post negate-Inv-loop negate-μ-loop
-negate-returns-2 t c = negates-done negating-start (c .before .before .before .before .before .before .before .before .before .before .before .before .before .before .before .is .ensures) (c .before .before .before .before .before .before .before .before .before .before .before .before .before .before .if1 .left) (c .before .before .before .before .before .before .before .before .before .before .before .count .ensures) (omega (arith, c .before .before .before .before .before .before .before .before .before .before .if2 .taken)) (c .before .before .before .before .before .before .store-negation .ensures)
+negate-returns-2 t c = negates-done negating-start (c .before .before .before .before .before .before .before .before .before .before .before .is .ensures) (c .before .before .before .before .before .before .before .before .before .before .if1 .left) (c .before .before .before .before .before .before .before .before .count .ensures) (omega (arith, c .before .before .before .before .before .before .before .if2 .taken)) (c .before .before .before .before .store-negation .ensures)
 
 negate-loop-holds : (t : ℕ) → negate-lts.Need-loop-holds (negate-calls t) (negate-at t) negate.Post negate-Inv-loop negate-μ-loop
 negate-loop-holds t c = negating-start
 
 negate-returns-3 : (t : ℕ) → negate-lts.Need-returns-3 (negate-calls t) (negate-at t) negate.Post negate-Inv-loop negate-μ-loop
-negate-returns-3 t c = negates-never (c .before .before .before .before .before .before .before .before .loop .inv) (c .before .before .before .before .before .count2 .ensures) (c .before .before .before .before .if3 .taken) (c .before .member .ensures) (c .if4 .taken)
+negate-returns-3 t c = negates-never (c .before .before .before .before .before .before .loop .inv) (c .before .before .before .before .count2 .ensures) (c .before .before .before .if3 .taken) (c .before .member .ensures) (c .if4 .taken)
 
 negate-loop-again : (t : ℕ) → negate-lts.Need-loop-again (negate-calls t) (negate-at t) negate.Post negate-Inv-loop negate-μ-loop
-negate-loop-again t c = negating-more (c .before .before .before .before .before .before .before .before .before .before .before .before .before .before .before .before .before .before .before .before .before .before .before .before .before .before .before .before .before .before .loop .inv) (c .before .before .before .before .before .before .before .before .before .before .before .before .before .before .before .before .before .before .before .before .before .before .before .before .before .before .before .count2 .ensures) (c .before .before .before .before .before .before .before .before .before .before .before .before .before .before .before .before .before .before .before .before .before .before .before .before .before .before .if3 .taken) (c .before .before .before .before .before .before .before .before .before .before .before .before .before .before .before .before .before .before .before .before .before .before .before .member .ensures) (c .before .before .before .before .before .before .before .before .before .before .before .before .before .before .before .before .before .before .before .before .before .before .if4 .left) (c .before .before .before .before .before .before .before .before .before .before .before .before .before .before .before .before .before .before .before .count3 .ensures) (c .before .before .before .before .before .before .before .before .before .before .before .before .before .before .before .before .before .before .add .ensures) (c .before .before .before .before .before .before .before .before .before .before .before .before .before .before .negate .ensures) (c .before .before .before .before .before .before .y .given .1) (c .before .before .before .before .before .before .before .before .before .before .before .before .before .before .negate .kept .0) (c .before .before .before .before .before .before .before .before .before .before .before .before .before .before .negate .kept .1 .0) (c .before .before .before .before .before .before .before .before .before .before .before .before .before .before .negate .kept .1 .1 .0) (c .before .before .before .place .ensures) (c .before .before .put .ensures)
+negate-loop-again t c = negating-more (c .before .before .before .before .before .before .before .before .before .before .before .before .before .before .before .before .before .before .before .before .before .before .before .before .loop .inv) (c .before .before .before .before .before .before .before .before .before .before .before .before .before .before .before .before .before .before .before .before .before .before .count2 .ensures) (c .before .before .before .before .before .before .before .before .before .before .before .before .before .before .before .before .before .before .before .before .before .if3 .taken) (c .before .before .before .before .before .before .before .before .before .before .before .before .before .before .before .before .before .before .before .member .ensures) (c .before .before .before .before .before .before .before .before .before .before .before .before .before .before .before .before .before .before .if4 .left) (c .before .before .before .before .before .before .before .before .before .before .before .before .before .before .before .before .count3 .ensures) (c .before .before .before .before .before .before .before .before .before .before .before .before .before .before .before .add .ensures) (c .before .before .before .before .before .before .before .before .before .before .before .before .negate .ensures) (c .before .before .before .before .before .before .y .given .1) (c .before .before .before .before .before .before .before .before .before .before .before .before .negate .kept .0) (c .before .before .before .before .before .before .before .before .before .before .before .before .negate .kept .1 .0) (c .before .before .before .place .ensures) (c .before .before .put .ensures)
 
 negate-returns-4 : (t : ℕ) → negate-lts.Need-returns-4 (negate-calls t) (negate-at t) negate.Post negate-Inv-loop negate-μ-loop
-negate-returns-4 t c = negates-refused (c .before .before .before .before .before .before .before .before .before .before .before .before .before .before .before .before .before .before .before .before .before .before .before .before .before .loop .inv) (c .before .before .before .before .before .before .before .before .before .before .before .before .before .before .before .before .before .before .before .before .before .before .count2 .ensures) (c .before .before .before .before .before .before .before .before .before .before .before .before .before .before .before .before .before .before .before .before .before .if3 .taken) (c .before .before .before .before .before .before .before .before .before .before .before .before .before .before .before .before .before .before .member .ensures) (c .before .before .before .before .before .before .before .before .before .before .before .before .before .before .before .before .before .if4 .left) (c .before .before .before .before .before .before .before .before .before .before .before .before .before .before .count3 .ensures) (c .before .before .before .before .before .before .before .before .before .before .before .before .before .add .ensures) (c .before .before .before .before .before .before .before .before .before .negate .ensures) (c .before .before .before .before .before .before .before .before .before .before .before .before .before .before .before .before .before .before .before .before .before .before .before .before .before .before .before .before .before .before .before .is .ensures) (c .before .before .before .before .before .before .before .before .before .before .before .before .before .before .before .before .before .before .before .before .before .before .before .before .before .before .before .before .before .before .if1 .left) (c .before .k .given .1)
+negate-returns-4 t c = negates-refused (c .before .before .before .before .before .before .before .before .before .before .before .before .before .before .before .before .before .before .before .loop .inv) (c .before .before .before .before .before .before .before .before .before .before .before .before .before .before .before .before .before .count2 .ensures) (c .before .before .before .before .before .before .before .before .before .before .before .before .before .before .before .before .if3 .taken) (c .before .before .before .before .before .before .before .before .before .before .before .before .before .before .member .ensures) (c .before .before .before .before .before .before .before .before .before .before .before .before .before .if4 .left) (c .before .before .before .before .before .before .before .before .before .before .before .count3 .ensures) (c .before .before .before .before .before .before .before .before .before .before .add .ensures) (c .before .before .before .before .before .before .before .negate .ensures) (c .before .before .before .before .before .before .before .before .before .before .before .before .before .before .before .before .before .before .before .before .before .before .before .before .is .ensures) (c .before .before .before .before .before .before .before .before .before .before .before .before .before .before .before .before .before .before .before .before .before .before .before .if1 .left) (c .before .k .given .1)
 
 negate-returns-5 : (t : ℕ) → negate-lts.Need-returns-5 (negate-calls t) (negate-at t) negate.Post negate-Inv-loop negate-μ-loop
-negate-returns-5 t c = negates-done (c .before .before .before .before .before .before .before .before .before .before .before .before .before .before .loop .inv) (c .before .before .before .before .before .before .before .before .before .before .before .before .before .before .before .before .before .before .before .before .is .ensures) (c .before .before .before .before .before .before .before .before .before .before .before .before .before .before .before .before .before .before .before .if1 .left) (c .before .before .before .before .before .before .before .before .before .before .before .count2 .ensures) (c .before .before .before .before .before .before .before .before .before .before .if3 .left) (c .before .before .before .before .before .before .store-negation2 .ensures)
+negate-returns-5 t c = negates-done (c .before .before .before .before .before .before .before .before .before .before .loop .inv) (c .before .before .before .before .before .before .before .before .before .before .before .before .before .before .before .is .ensures) (c .before .before .before .before .before .before .before .before .before .before .before .before .before .before .if1 .left) (c .before .before .before .before .before .before .before .before .count2 .ensures) (c .before .before .before .before .before .before .before .if3 .left) (c .before .before .before .before .store-negation2 .ensures)
 
 pub +negate-spec : {M : Type 1} → statement M
 +negate-spec = close μ-negate λ t. negate-lts.spec (negate-calls t)
@@ -69,18 +68,15 @@ pub +negate-spec : {M : Type 1} → statement M
     (λ c _. search needs)
     (λ c _. search needs)
     (λ c. search needs)
-    (λ c. search needs)
     (negate-returns t)
     (λ c _. search needs)
     (λ c _. search needs)
-    (λ c. search needs)
     (λ c. search needs)
     (λ c. search needs)
     (negate-returns-2 t)
     (negate-loop-holds t)
     (λ c _. search needs)
     (λ c _. search needs)
-    (λ c. search needs)
     (λ c. search needs)
     (λ c. search needs)
     (negate-returns-3 t)
@@ -96,10 +92,8 @@ pub +negate-spec : {M : Type 1} → statement M
     (λ c. search needs)
     (λ c. search needs)
     (λ c. search needs)
-    (λ c. search needs)
     (negate-returns-4 t)
     (λ c _. search needs)
-    (λ c. search needs)
     (λ c. search needs)
     (λ c. search needs)
     (negate-returns-5 t)

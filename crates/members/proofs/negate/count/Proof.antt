@@ -1,4 +1,4 @@
-use Rattle.members.proofs.Negating.{counting-is}
+use Rattle.members.proofs.Negated.{counting-is}
 use borrow.Author.Needs.{needs}
 use Rattle.members.proofs.negate.count.Statement.{statement}
 use Rattle.members.proofs.negate.count.Tie as tie

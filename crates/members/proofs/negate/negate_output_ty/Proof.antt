@@ -1,4 +1,4 @@
-use Rattle.members.proofs.Negating.{output-node, output-refused}
+use Rattle.members.proofs.Negated.{output-node, output-refused}
 use borrow.Author.Needs.{needs}
 use Rattle.members.proofs.negate.negate_output_ty.Statement.{statement}
 use Rattle.members.proofs.negate.negate_output_ty.Tie as tie
@@ -21,9 +21,7 @@ negate-output-ty-spec =
     (λ c. search needs)
     (λ c. search needs)
     (λ c. search needs)
-    (λ c. search needs)
     returns
-    (λ c. search needs)
     (λ c. search needs)
     (λ c. search needs)
     returns-2)

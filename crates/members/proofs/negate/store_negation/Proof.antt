@@ -1,4 +1,4 @@
-use Rattle.members.proofs.Negating.{negation-wraps, negation-turns}
+use Rattle.members.proofs.Negated.{negation-wraps, negation-turns}
 use borrow.Author.Needs.{needs}
 use Rattle.members.proofs.negate.store_negation.Statement.{statement}
 use Rattle.members.proofs.negate.store_negation.Tie as tie
@@ -20,11 +20,9 @@ store-negation-spec =
     (λ c _. search needs)
     (λ c. search needs)
     (λ c. search needs)
-    (λ c. search needs)
     returns
     (λ c _. search needs)
     (λ c _. search needs)
-    (λ c. search needs)
     (λ c. search needs)
     (λ c. search needs)
     returns-2)

@@ -1,4 +1,4 @@
-use Rattle.members.proofs.Negating.{entered-node, entered-refused}
+use Rattle.members.proofs.Negated.{entered-node, entered-refused}
 use borrow.Author.Needs.{needs}
 use Rattle.members.proofs.negate.stored.Statement.{statement}
 use Rattle.members.proofs.negate.stored.Tie as tie

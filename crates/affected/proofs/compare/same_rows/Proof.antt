@@ -1,0 +1,26 @@
+use Prim.Native.Nat.{_-_, _≤_}
+use borrow.Author.Needs.{needs}
+use Rattle.affected.proofs.compare.same_rows.Statement.{statement}
+use Rattle.affected.proofs.compare.same_rows.Tie as tie
+
+abbrev Inv-loop : tie.InvT-loop
+Inv-loop old table first n i₀ i = i ≤ n
+
+abbrev μ-loop : tie.MeasureT-loop
+μ-loop old table first n i₀ i = n - i
+
+pub same-rows-spec : {M : Type 1} → statement M
+same-rows-spec =
+    tie.close
+    (tie.spec
+    Inv-loop
+    μ-loop
+    (λ c. search needs)
+    (λ c _. search needs)
+    (λ c _. search needs)
+    (λ c _. search needs)
+    (λ c. search needs)
+    (λ c. search needs)
+    (λ c. search needs)
+    (λ c. search needs)
+    (λ c. search needs))

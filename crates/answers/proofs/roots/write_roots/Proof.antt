@@ -1,0 +1,30 @@
+use borrow.Author.Needs.{needs}
+use Prim.Native.Nat.{_-_, _≤_}
+use mathlib.Core.Path.{_≡_}
+use lib.ListN.{length}
+use Rattle.answers.proofs.roots.write_roots.Statement.{statement}
+use Rattle.answers.proofs.roots.write_roots.Tie as tie
+
+abbrev Inv-loop : tie.InvT-loop
+Inv-loop out₀ table₀ g arena₀ work₀ n p₀ i₀ out table arena work p i = (i ≤ n) × (n ≤ 4294967295) × (length out ≡ length out₀) × (length table ≡ length table₀) × (length arena ≡ length arena₀) × (length work ≡ length work₀)
+
+abbrev μ-loop : tie.MeasureT-loop
+μ-loop out₀ table₀ g arena₀ work₀ n p₀ i₀ out table arena work p i = n - i
+
+pub write-roots-spec : {M : Type 1} → statement M
+write-roots-spec =
+    tie.close
+    (tie.spec
+    Inv-loop
+    μ-loop
+    (λ c _. search needs)
+    (λ c. search needs)
+    (λ c _. search needs)
+    (λ c. search needs)
+    (λ c. search needs)
+    (λ c. search needs)
+    (λ c. search needs)
+    (λ c. search needs)
+    (λ c. search needs)
+    (λ c. search needs)
+    (λ c. search needs))

@@ -1,0 +1,3 @@
+// What the calls share: what a call comes to, and the lines of a table's roots.
+pub mod outcome;
+pub mod roots;

@@ -1,9 +1,0 @@
-pub mod Marking
-pub mod Varying
-pub mod Setting
-pub mod Equiving
-pub mod Sifting
-pub mod Reading
-pub mod Holding
-pub mod Deduplicating
-pub mod Expanding

@@ -1,7 +1,0 @@
-pub mod Passes
-pub mod Equivs
-pub mod Marks
-pub mod Vars
-pub mod Sets
-pub mod Storages
-pub mod Helds

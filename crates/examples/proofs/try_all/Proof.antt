@@ -1,0 +1,28 @@
+use Prim.Native.Nat.{_-_, _≤_}
+use borrow.Author.Needs.{needs}
+use Rattle.examples.proofs.try_all.Statement.{statement}
+use Rattle.examples.proofs.try_all.Tie as tie
+
+-- a record has a byte at least, so the counts do not wrap
+abbrev Inv-loop : tie.InvT-loop
+Inv-loop input n tried₀ differ₀ a₀ tried differ a = (a ≤ n) × (tried ≤ a) × (differ ≤ a)
+
+abbrev μ-loop : tie.MeasureT-loop
+μ-loop input n tried₀ differ₀ a₀ tried differ a = n - a
+
+pub try-all-spec : {M : Type 1} → statement M
+try-all-spec =
+    tie.close
+    (tie.spec
+    Inv-loop
+    μ-loop
+    (λ c. search needs)
+    (λ c _. search needs)
+    (λ c. search needs)
+    (λ c _. search needs)
+    (λ c. search needs)
+    (λ c. search needs)
+    (λ c. search needs)
+    (λ c. search needs)
+    (λ c. search needs)
+    (λ c. search needs))

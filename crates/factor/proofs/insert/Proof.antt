@@ -1,0 +1,16 @@
+use Rattle.factor.proofs.Factors.{inserts-is}
+use borrow.Author.Needs.{needs}
+use Rattle.factor.proofs.insert.Statement.{statement}
+use Rattle.factor.proofs.insert.Tie as tie
+
+returns : tie.Need-returns
+returns c = search inserts-is
+
+pub insert-spec : {M : Type 1} → statement M
+insert-spec =
+    tie.close
+    (tie.spec
+    (λ c _. search needs)
+    (λ c _. search needs)
+    (λ c. search needs)
+    returns)

@@ -1,0 +1,12 @@
+use Rattle.factor.proofs.Factors.{remains-is}
+use borrow.Author.Needs.{needs}
+use Rattle.factor.proofs.remainder.Statement.{statement}
+use Rattle.factor.proofs.remainder.Tie as tie
+
+returns : tie.Need-returns
+returns c = search remains-is
+
+pub remainder-spec : {M : Type 1} → statement M
+remainder-spec =
+    tie.close
+    (tie.spec (λ c _. search needs) (λ c _. search needs) (λ c _. search needs) (λ c. search needs) (λ c. search needs) returns)

@@ -1,0 +1,308 @@
+// Factoring: members that all unions of an intersection share come out of it.
+use cells::at;
+use cells::set;
+use lang_ty::arc_ty::Order;
+use lang_ty::arc_ty;
+use lang_ty::arena::OutputTy;
+use lang_ty::arena::Pass;
+use lang_ty::arena;
+use members::lists::AtMostOne;
+use members::lists::Flow;
+use members::lists::Grown;
+use members::lists::Listed;
+use members::lists::Members;
+use members::lists::as_listed;
+use members::lists::contains;
+use members::lists::grow;
+use members::lists::joined;
+use members::lists::keep_if;
+use members::lists::of_kind;
+use members::lists::refused;
+use members::lists::sole;
+ghost use Rattle.rules.specs.Members.{factor-shared-from-intersection};
+ghost use Rattle.rules.specs.Order.{sort};
+ghost use Rattle.cells.specs.Part.{cell};
+ghost use Rattle.members.specs.Lists.{Makes, Tests, Runs, Asks};
+ghost use Rattle.members.specs.Lists.{firstOf, Pairs};
+ghost use Rattle.factor.specs.Factors.{hasMember, inOthers, inAllOthers, notAmong, Picks, Remains, Leaves, behind, Placed, PutIn, Inserts, Marked, SolesAny, FactorsParts, FactorsRests, FactorsUnions, FactorsOne};
+
+// Whether every union of the list but the first has the member x.
+fn in_all_others(arena: &[u32], s: &[u32], n: u32, x: u32) -> bool
+    ensures { λ r. ⌜ Tests (inOthers x) (now (arena .entry)) (firstOf n (now (s .entry))) r ⌝ }
+{
+    let mut i = 1;
+    while i < n {
+        if !has_member(arena, at(s, i), x) {
+            return false;
+        }
+        i += 1;
+    }
+    true
+}
+
+fn has_member(arena: &[u32], u: u32, x: u32) -> bool
+    ensures { λ r. ⌜ Asks (hasMember x) (now (arena .entry)) u r ⌝ }
+{
+    let n = arena::count(arena, u);
+    let mut i = 0;
+    while i < n {
+        if arena::member(arena, u, i) == x {
+            return true;
+        }
+        i += 1;
+    }
+    false
+}
+
+// The members of the first of the unions that all others have.
+fn shared_members(arena: &[u32], unions: Members) -> Members
+    ensures { λ r. ⌜ Picks inAllOthers (now (arena .entry)) (unions .at) (unions .count) (cell (unions .at) 0) r ⌝ }
+{
+    let s = unions.at;
+    let u = s[0];
+    let n = arena::count(arena, u);
+    let mut out = [0u32; 128];
+    let mut k = 0;
+    let mut i = 0;
+    while i < n {
+        let x = arena::member(arena, u, i);
+        k = keep_if(&mut out, k, x, in_all_others(arena, &s, unions.count, x));
+        i += 1;
+    }
+    Members { count: k, at: out }
+}
+
+// The members of union u that are not among the first n cells of s.
+fn unshared(arena: &[u32], s: &[u32], n: u32, u: u32) -> Members
+    ensures { λ r. ⌜ Picks notAmong (now (arena .entry)) (now (s .entry)) n u r ⌝ }
+{
+    let c = arena::count(arena, u);
+    let mut out = [0u32; 128];
+    let mut k = 0;
+    let mut i = 0;
+    while i < c {
+        let x = arena::member(arena, u, i);
+        k = keep_if(&mut out, k, x, !contains(s, n, x));
+        i += 1;
+    }
+    Members { count: k, at: out }
+}
+
+// What is left of union u without the first n cells of s, put behind the first k cells of out.
+fn remainder(arena: &mut [u32], q: Pass, s: &[u32], n: u32, u: u32, out: &mut [u32], k: u32) -> Grown
+    ensures { λ r. ⌜ Remains (now (arena .entry)) q (now (s .entry)) n u (now (out .entry)) k (now (arena .exit)) (now (out .exit)) r ⌝ }
+{
+    let rest = unshared(arena, s, n, u);
+    let part = sole(arena, q, OutputTy::UNION, rest);
+    grow(out, k, part)
+}
+
+// Each union without the shared members.
+fn remainders(arena: &mut [u32], p: Pass, shared: Members, unions: Members) -> Listed
+    ensures { λ r. ⌜ Leaves (now (arena .entry)) p shared unions (now (arena .exit)) r ⌝ }
+{
+    let s = shared.at;
+    let m = shared.count;
+    let us = unions.at;
+    let n = unions.count;
+    let mut out = [0u32; 128];
+    let mut k = 0;
+    let mut q = p;
+    let mut i = 0;
+    while i < n {
+        match remainder(arena, q, &s, m, at(&us, i), &mut out, k) {
+            Grown::On(more, r) => {
+                k = more;
+                q = r;
+                i += 1;
+            }
+            Grown::Refused(why) => {
+                return refused(why);
+            }
+        }
+    }
+    let found = Members { count: k, at: out };
+    Listed {
+        flow: Flow::On(q),
+        members: found,
+    }
+}
+
+// Whether node y comes behind node x in the order of nodes.
+fn is_behind(arena: &[u32], y: u32, x: u32) -> bool
+    ensures { λ r. ⌜ Pairs behind (now (arena .entry)) y x r ⌝ }
+{
+    match arc_ty::compare(arena, y, x) {
+        Order::Less => false,
+        Order::Equal => false,
+        Order::Greater => true,
+    }
+}
+
+// Where x goes among the first n cells of s: before the first that is greater.
+fn place_of(arena: &[u32], s: &[u32], n: u32, x: u32) -> u32
+    ensures { λ r. ⌜ Placed (now (arena .entry)) (now (s .entry)) n x r ⌝ }
+{
+    let mut i = 0;
+    while i < n {
+        if is_behind(arena, at(s, i), x) {
+            return i;
+        }
+        i += 1;
+    }
+    i
+}
+
+// x put before cell i of the first n cells of s, those from i on moved up by one.
+fn put_in(s: &mut [u32], i: u32, n: u32, x: u32)
+    ensures { λ _. ⌜ PutIn (now (s .entry)) i n x (now (s .exit)) ⌝ }
+{
+    let mut v = x;
+    let mut j = i;
+    while j < n {
+        let y = at(s, j);
+        set(s, j, v);
+        v = y;
+        j += 1;
+    }
+    set(s, j, v);
+}
+
+// x put into the first n cells of s, which are in order, after all that are not greater.
+fn insert(arena: &[u32], s: &mut [u32], n: u32, x: u32)
+    ensures { λ _. ⌜ Inserts (now (arena .entry)) (now (s .entry)) n x (now (s .exit)) ⌝ }
+{
+    let i = place_of(arena, s, n, x);
+    put_in(s, i, n, x);
+}
+
+// The shared members in the order of nodes.
+fn sort(arena: &[u32], m: Members) -> Members
+    ensures { λ r. ⌜ Makes sort (now (arena .entry)) m r ⌝ }
+{
+    let ms = m.at;
+    let n = m.count;
+    let mut out = [0u32; 128];
+    let mut i = 0;
+    while i < n {
+        insert(arena, &mut out, i, at(&ms, i));
+        i += 1;
+    }
+    Members { count: n, at: out }
+}
+
+// The pass with the sorted mark where two members or more are shared.
+fn mark_sorted(q: Pass, n: u32) -> Pass
+    ensures { λ r. ⌜ Marked q n r ⌝ }
+{
+    if n < 2 {
+        return q;
+    }
+    Pass {
+        nodes: q.nodes,
+        cells: q.cells,
+        ops: q.ops,
+        sorted: true,
+        bailed: q.bailed,
+    }
+}
+
+// `sole` of a list that may be more than fit: 7 then.
+fn sole_of_any(arena: &mut [u32], q: Pass, kind: u32, m: Members) -> AtMostOne
+    ensures { λ r. ⌜ SolesAny kind (now (arena .entry)) q m (now (arena .exit)) r ⌝ }
+{
+    if Pass::MEMBERS < m.count {
+        return AtMostOne::Refused(7);
+    }
+    sole(arena, q, kind, m)
+}
+
+// The shared members beside the intersection of the parts.
+fn factored(arena: &mut [u32], q: Pass, shared: Members, parts: Members) -> Listed
+    ensures { λ r. ⌜ FactorsParts (now (arena .entry)) q shared parts (now (arena .exit)) r ⌝ }
+{
+    let first = sole_of_any(arena, q, OutputTy::INTERSECTION, parts);
+    let inner = as_listed(first);
+    let flow = inner.flow;
+    match flow {
+        Flow::On(r) => {
+            let all = joined(shared, inner.members);
+            let whole = sole_of_any(arena, r, OutputTy::UNION, all);
+            as_listed(whole)
+        }
+        Flow::Refused(k) => refused(k),
+    }
+}
+
+// The shared members in order beside what is left of the unions and the other members.
+fn factor_rests(arena: &mut [u32], rests: Listed, shared: Members, others: Members) -> Listed
+    ensures { λ r. ⌜ FactorsRests (now (arena .entry)) rests shared others (now (arena .exit)) r ⌝ }
+{
+    let flow = rests.flow;
+    match flow {
+        Flow::On(q) => {
+            let inorder = sort(arena, shared);
+            let parts = joined(rests.members, others);
+            let p = mark_sorted(q, inorder.count);
+            factored(arena, p, inorder, parts)
+        }
+        Flow::Refused(k) => refused(k),
+    }
+}
+
+// factor_shared_from_intersection with two unions or more.
+fn factor_unions(arena: &mut [u32], q: Pass, others: Members, unions: Members) -> Listed
+    ensures { λ r. ⌜ FactorsUnions (now (arena .entry)) q others unions (now (arena .exit)) r ⌝ }
+{
+    let shared = shared_members(arena, unions);
+    if shared.count == 0 {
+        let all = joined(others, unions);
+        return Listed {
+            flow: Flow::On(q),
+            members: all,
+        };
+    }
+    let rests = remainders(arena, q, shared, unions);
+    factor_rests(arena, rests, shared, others)
+}
+
+// A sole union goes last, and one of one member is unwrapped. It is stored again, which gives its own number.
+fn factor_one(arena: &mut [u32], q: Pass, others: Members, u: u32) -> Listed
+    ensures { λ r. ⌜ FactorsOne (now (arena .entry)) q others u (now (arena .exit)) r ⌝ }
+{
+    let s = [0u32; 128];
+    let whole = unshared(arena, &s, 0, u);
+    let part = sole(arena, q, OutputTy::UNION, whole);
+    let last = as_listed(part);
+    let flow = last.flow;
+    match flow {
+        Flow::On(r) => {
+            let all = joined(others, last.members);
+            Listed {
+                flow: Flow::On(r),
+                members: all,
+            }
+        }
+        Flow::Refused(k) => refused(k),
+    }
+}
+
+// factor_shared_from_intersection
+pub fn factor_shared_from_intersection(arena: &mut [u32], q: Pass, m: Members) -> Listed
+    ensures { λ r. ⌜ Runs factor-shared-from-intersection (now (arena .entry)) q m (now (arena .exit)) r ⌝ }
+{
+    let unions = of_kind(arena, m, OutputTy::UNION, true);
+    let others = of_kind(arena, m, OutputTy::UNION, false);
+    let n = unions.count;
+    if n == 0 {
+        return Listed {
+            flow: Flow::On(q),
+            members: others,
+        };
+    }
+    if n == 1 {
+        let s = unions.at;
+        return factor_one(arena, q, others, s[0]);
+    }
+    factor_unions(arena, q, others, unions)
+}

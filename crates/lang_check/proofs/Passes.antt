@@ -1,0 +1,350 @@
+-- A pass from nothing, the set that the second pass preserves, and a root's answer. Assumes nothing.
+use mathlib.Core.Path.{_≡_, refl, sym, ap, _∙_, subst}
+use mathlib.Core.Bool.{Bool, true, false, not, _||_}
+use mathlib.Core.Logic.{⊎-elim}
+use Prim.Native.Nat.{ℕ, zero, suc, _+_, _-_, _*_, _≤_, _<_}
+use native.Mathlib.Omega.{arith}
+use native.Mathlib.Nat.{eq-or-lt-of-le}
+use native.Mathlib.Numerals.{add-one}
+use mathlib.Core.List.{List, [], _∷_, _++_}
+use lib.ListN.{length, set, replicate, length-set}
+use lib.Seq.{getD-set-same, getD-set-other}
+use lib.Dec.{eqb, ltb}
+use borrow.Author.Tests.{ltb-true, ltb-false, eq-eqb, ne-eqb}
+use Rattle.cells.specs.Part.{if, cell, part}
+use Rattle.cells.specs.Sum.{Sum}
+use Rattle.cells.specs.Clears.{Clears}
+use Rattle.cells.proofs.Parts.{run-snoc}
+use Rattle.cells.proofs.Holding.{holds-from}
+use Rattle.layout.specs.Layout.{bitsAt, heldAt, preservedAt, seenAt, marksAt, arenaWords}
+use Rattle.rules.specs.Plain.{any}
+use Rattle.rules.specs.Ceilings.{mostOperations, mostEntries}
+use Rattle.rules.specs.Types.{State, ok, no}
+use Rattle.rules.specs.Run.{Reader, isBoth, fresh, pass, shown, afterFirst, afterSecond, withSet, canonicalize, visit}
+use Rattle.rules.specs.Run as runs
+use Rattle.rules.specs.Sound.{Tabled}
+use Rattle.rules.specs.declared.Polarity.{Polarity}
+use Rattle.rules.proofs.Storing.{true-false, Rooted, rooted-none}
+use Rattle.rules.proofs.Keeping.{refused-not}
+use Rattle.rules.proofs.Loading.{load-fresh}
+use Rattle.rules.proofs.Moving.{Moved, visit-moves, steady-fresh}
+use Rattle.lang_ty.specs.declared.arena.Pass.{Pass}
+use Rattle.lang_ty.specs.declared.arena.Given.{Given}
+use Rattle.lang_ty.specs.declared.arena.Given.the-variants.{Node as NodeG, Refused}
+use Rattle.lang_ty.specs.Nodes.{Stands, Answers as Stores}
+use Rattle.lang_ty.proofs.Stores.{stands-none}
+use Rattle.storage.proofs.Alike.{reads-alike}
+use Rattle.storage.specs.declared.given.Canon.{Canon}
+use Rattle.storage.specs.Passes.{repOf, Reps, Knows}
+use Rattle.lang_check.specs.declared.collect.Shown.{Shown}
+use Rattle.lang_check.specs.declared.collect.RootAnswer.{RootAnswer}
+use Rattle.lang_check.specs.declared.collect.RootAnswer.the-variants.{Shown as ShownR, Refused as RefusedR}
+use Rattle.lang_check.specs.Cycle.{Keyed, Poised, Answers, Visits}
+use Rattle.lang_check.specs.Roots.{NoneCounted, LentTo, OnePass, PreservesIf, Or, Detects, RootIs, SecondShown, NonePreserved, Canonicalizes}
+use Rattle.lang_check.proofs.Poised.{answers-out}
+use Rattle.lang_check.proofs.Expand.{stores-of}
+use Rattle.lang_check.proofs.Answered.{answers-base}
+
+cell-zero : (n k : ℕ) → cell (replicate n 0) k ≡ 0
+cell-zero zero k = refl
+cell-zero (suc n) zero = refl
+cell-zero (suc n) (suc k) = cell-zero n k
+
+pass-is : (p : runs.Pass) (t : Reader) (id : ℕ) (pol : Polarity) → pass p t id pol ≡ visit 96 p t id pol (fresh (p .count))
+unfolding pass
+pass-is p t id pol = refl
+
+module _ {table : List ℕ} {c : Canon} {w w1 work work1 work2 work3 : List ℕ} {two : ℕ} {q : Pass} {id : ℕ} {pol : Polarity} {w′ work′ : List ℕ} {r : Given} where
+  pub one-pass : Sum (c .count) (c .count) two → Clears work 0 two work1 → Clears work1 bitsAt (c .count) work2 → Clears work2 seenAt (c .count) work3 → w1 ≡ set w 0 arenaWords → NoneCounted q
+      → Visits table c w1 work3 96 heldAt q id pol w′ work′ r → length work1 ≡ length work → length work2 ≡ length work1 → length work3 ≡ length work2
+      → OnePass table c w work id pol w′ work′ r
+  one-pass sum a b d e none v len1 len2 len3 =
+      record {
+        is = λ {p} {t} k tb lent lt.
+            let few = k .few in
+            let n = k .count in
+            let twice : two ≡ c .count + c .count = sum .is (omega arith) in
+            let fr = load-fresh t (p .count) in
+            let ids = tb .ids in
+            let long = lent .work in
+            let size = ap length e ∙ length-set w 0 arenaWords in
+            let arena = lent .arena in
+            let keyed : Keyed (p .count) (fresh (p .count)) work3 =
+                record {
+                  keys = λ i l. d .before i (omega arith) ∙ b .before i (omega arith) ∙ a .zero i (omega arith) (omega arith) ∙ sym (cell-zero (2 * p .count) i);
+                  bits = λ i l. d .before (bitsAt + i) (omega arith) ∙ b .zero (bitsAt + i) (omega arith) (omega arith) ∙ sym (cell-zero (p .count) i);
+                  unseen = record { few = omega arith; is = λ i l. d .zero (seenAt + i) (omega arith) (omega arith) };
+                } in
+            let poised : Poised table c work3 heldAt 0 p t (fresh (p .count)) =
+                record {
+                  knows = k;
+                  tabled = tb;
+                  keyed = keyed;
+                  steady = steady-fresh (p .count);
+                  roomed = record { behind = omega arith; fits = omega arith; long = omega arith };
+                } in
+            let first : cell w1 0 ≡ arenaWords = ap (λ (l : List ℕ). cell l 0) e ∙ getD-set-same w 0 arenaWords 0 (omega arith) in
+            let on : Stands (fresh (p .count)) w1 q = stands-none refl refl (sym (none .ops)) (sym (none .sorted)) (sym (none .bailed)) (none .nodes) (none .cells) first (omega arith) in
+            let ans = v .is poised on lt in
+            answers-out (sym (pass-is p t id pol)) (answers-base (λ x st z. record { is = λ j lo hi. absurd (omega arith) }) ans);
+      }
+
+-- a pass's operations stay within their ceiling, and its result is a node
+module _ {table : List ℕ} {c : Canon} {p : runs.Pass} {t : Reader} (k : Knows table c p t) (tb : Tabled p t) {id : ℕ} (lt : id < c .count) (pol : Polarity) where
+  pass-moves : (x : ℕ) (st : State) → pass p t id pol ≡ ok x st → Moved (p .count) t (fresh (p .count)) st × (x < length (st .nodes)) × Rooted (st .nodes)
+  pass-moves x st e =
+      visit-moves p t tb 96 id pol (fresh (p .count)) x st (subst (λ (n : ℕ). id < n) (sym (k .count)) lt) (steady-fresh (p .count)) rooted-none (sym (pass-is p t id pol) ∙ e)
+
+  pass-most : (x : ℕ) (st : State) → pass p t id pol ≡ ok x st → st .ops ≤ mostOperations
+  pass-most x st e = pass-moves x st e .0 .counted (omega arith)
+
+  pass-stores : {n : ℕ} {w work work′ : List ℕ} {h : ℕ} (g : Given) → Answers (pass p t id pol) n w work work′ h g → Stores (pass p t id pol) w g
+  pass-stores g a = stores-of g (λ x st e. pass-moves x st e .1) a
+
+-- the set that a pass preserves, found so far
+pub record Detecting (table₀ work : List ℕ) (count : ℕ) (table : List ℕ) (found : Bool) (i : ℕ) : Type 0 where
+  pub few : i ≤ count
+  pub same : length table ≡ length table₀
+  pub is : Detects table₀ work i table found
+
+pub detecting-start : {table work : List ℕ} {count : ℕ} → Detecting table work count table false 0
+detecting-start {table} =
+    record {
+      few = omega arith;
+      same = refl;
+      is = record { is = refl; seen = λ v l. absurd (omega arith); unseen = λ v e. refl; before = λ k l. refl; behind = λ k l. refl; none = λ e. refl };
+    }
+
+any-one : (b : Bool) → if b (λ _. true) (λ _. false) ≡ b
+any-one true = refl
+any-one false = refl
+
+any-turn : (b : Bool) (x y z : Bool) → y ≡ z || x → if b (λ _. true) (λ _. y) ≡ if b (λ _. true) (λ _. z) || x
+any-turn true x y z e = refl
+any-turn false x y z e = e
+
+any-snoc : (xs : List ℕ) (x : ℕ) → any isBoth (xs ++ (x ∷ [])) ≡ any isBoth xs || isBoth x
+any-snoc [] x = any-one (isBoth x)
+any-snoc (y ∷ xs) x = any-turn (isBoth y) (isBoth x) (any isBoth (xs ++ (x ∷ []))) (any isBoth xs) (any-snoc xs x)
+
+or-none : (a b : Bool) → a || b ≡ false → (a ≡ false) × (b ≡ false)
+or-none true b e = true-false e
+or-none false b e = (refl, e)
+
+module _ {table₀ work : List ℕ} {table table′ : List ℕ} {found found′ : Bool} {i : ℕ} where
+  -- what is preserved of id i, or not
+  preserved-by : (b : Bool) → Detects table₀ work i table found → length table ≡ length table₀ → b ≡ isBoth (cell work (bitsAt + i)) → (b ≡ true → table′ ≡ set table (preservedAt + i) 1)
+      → (b ≡ false → table′ ≡ table) → found′ ≡ found || b → Detects table₀ work (suc i) table′ found′
+  preserved-by true d size e took left f =
+      let at : table′ ≡ set table (preservedAt + i) 1 = took refl in
+      let read : (k : ℕ) → cell table′ k ≡ cell (set table (preservedAt + i) 1) k = λ k. ap (λ (l : List ℕ). cell l k) at in
+      let other : (k : ℕ) → (k ≡ preservedAt + i → ⊥) → cell table′ k ≡ cell table k = λ k ne. read k ∙ getD-set-other table (preservedAt + i) k 1 0 ne in
+      record {
+        is = f ∙ ap (λ (y : Bool). y || true) (d .is) ∙ ap (λ (y : Bool). any isBoth (part work bitsAt i) || y) e ∙ sym (any-snoc (part work bitsAt i) (cell work (bitsAt + i))) ∙ ap (any isBoth) (sym (run-snoc (cell work) bitsAt i));
+        seen = λ v l r z.
+            ⊎-elim (λ (q : v ≡ i). read (preservedAt + v) ∙ ap (λ (j : ℕ). cell (set table (preservedAt + i) 1) (preservedAt + j)) q ∙ getD-set-same table (preservedAt + i) 1 0 (omega arith))
+            (λ (q : v < i). other (preservedAt + v) (λ y. omega arith) ∙ d .seen v q r z) (eq-or-lt-of-le (omega arith));
+        unseen = λ v z. other (preservedAt + v) (λ y. let j : v ≡ i = omega arith in true-false (e ∙ ap (λ (m : ℕ). isBoth (cell work (bitsAt + m))) (sym j) ∙ z)) ∙ d .unseen v z;
+        before = λ k l. other k (λ y. omega arith) ∙ d .before k l;
+        behind = λ k l. other k (λ y. omega arith) ∙ d .behind k (omega arith);
+        none = λ z. true-false (or-none found true (sym f ∙ z) .1);
+      }
+  preserved-by false d size e took left f =
+      let same : table′ ≡ table = left refl in
+      let read : (k : ℕ) → cell table′ k ≡ cell table k = λ k. ap (λ (l : List ℕ). cell l k) same in
+      record {
+        is = f ∙ ap (λ (y : Bool). y || false) (d .is) ∙ ap (λ (y : Bool). any isBoth (part work bitsAt i) || y) e ∙ sym (any-snoc (part work bitsAt i) (cell work (bitsAt + i))) ∙ ap (any isBoth) (sym (run-snoc (cell work) bitsAt i));
+        seen = λ v l r z.
+            ⊎-elim (λ (q : v ≡ i). true-false (sym z ∙ ap (λ (m : ℕ). isBoth (cell work (bitsAt + m))) q ∙ sym e))
+            (λ (q : v < i). read (preservedAt + v) ∙ d .seen v q r z) (eq-or-lt-of-le (omega arith));
+        unseen = λ v z. read (preservedAt + v) ∙ d .unseen v z;
+        before = λ k l. read k ∙ d .before k l;
+        behind = λ k l. read k ∙ d .behind k (omega arith);
+        none = λ z. same ∙ d .none (or-none found false (sym f ∙ z) .0);
+      }
+
+  pub detecting-more : {count : ℕ} {b : Bool} → Detecting table₀ work count table found i → i < count → PreservesIf table work i table′ b → Or found b found′ → length table′ ≡ length table
+      → Detecting table₀ work count table′ found′ (i + 1)
+  detecting-more {b = b} d lt pr o size =
+      record {
+        few = omega arith;
+        same = size ∙ d .same;
+        is = subst (λ (j : ℕ). Detects table₀ work j table′ found′) (sym (add-one i)) (preserved-by b (d .is) (d .same) (pr .is) (pr .some) (pr .none) (o .is));
+      }
+
+pub detecting-done : {table₀ work : List ℕ} {count : ℕ} {table : List ℕ} {found : Bool} {i : ℕ} → Detecting table₀ work count table found i → count ≤ i → Detects table₀ work count table found
+detecting-done {table₀} {work} {count} {table} {found} {i} d le =
+    let e : i ≡ count = omega (arith, d .few) in subst (λ (j : ℕ). Detects table₀ work j table found) e (d .is)
+
+-- the numbers shown
+abbrev shownIn : ℕ → ℕ → Bool → Bool → ℕ → Shown
+shownIn passes ops sorted bailed x = record { passes = passes; ops = ops; sorted = sorted; bailed = bailed; node = x }
+
+pub second-node : {y : Given} {x : ℕ} {q first : Pass} {ops : ℕ} {sorted : Bool} → y ≡ NodeG x q → Sum (first .ops) (q .ops) ops → Or (first .sorted) (q .sorted) sorted
+    → SecondShown y first (ShownR (shownIn 2 ops sorted (q .bailed) x))
+second-node {y} {x} {q} {first} {ops} {sorted} d sum o =
+    record {
+      is = λ {w} out a most more.
+          let g = subst (λ (z : Given). Stores out w z) d a .is in
+          let k = more x (g .after) (g .is) in
+          let e : ops ≡ first .ops + g .after .ops = sum .is (let z = g .stands .ops in omega arith) ∙ ap (λ (m : ℕ). first .ops + m) (sym (g .stands .ops)) in
+          let f : sorted ≡ first .sorted || g .after .sorted = o .is ∙ ap (λ (b : Bool). first .sorted || b) (sym (g .stands .sorted)) in
+          record {
+            is = record {
+              pass = q;
+              nodes = g .after .nodes;
+              is =
+                  ap (afterSecond (first .ops) (first .sorted)) (g .is)
+                  ∙ ap (λ (m : ℕ). shown 2 m (first .sorted || g .after .sorted) (g .after .bailed) (g .after .nodes) x) (sym e)
+                  ∙ ap (λ (b : Bool). shown 2 ops b (g .after .bailed) (g .after .nodes) x) (sym f)
+                  ∙ ap (λ (b : Bool). shown 2 ops sorted b (g .after .nodes) x) (g .stands .bailed);
+              arena = g .stands .arena;
+              below = g .below;
+            };
+          };
+    }
+
+pub second-refused : {y : Given} {k : ℕ} {first : Pass} → y ≡ Refused k → SecondShown y first (RefusedR k)
+second-refused {first = first} d =
+    record { is = λ {w} out a most more. record { is = ap (afterSecond (first .ops) (first .sorted)) (subst (λ (z : Given). Stores out w z) d a .is) } }
+
+-- the bits of a state are those of the working slice
+bits-part : {n : ℕ} {st : State} {work : List ℕ} → Keyed n st work → length (st .bits) ≡ n → part work bitsAt n ≡ st .bits
+bits-part {n} {st} {work} k size =
+    ap (part work bitsAt) (sym size) ∙ holds-from work bitsAt (st .bits) (λ i lt. k .bits i (omega arith)) .is
+
+canonicalize-is : (p : runs.Pass) (t : Reader) (id : ℕ) (pol : Polarity) → canonicalize p t id pol ≡ afterFirst p t id pol (pass p t id pol)
+unfolding canonicalize
+canonicalize-is p t id pol = refl
+
+-- what the second pass is given
+abbrev pub again : Canon → Pass → Canon
+again c q = record { count = c .count; base = c .base; budget = c .budget; spent = q .ops; functor = c .functor }
+
+-- the facts with the set preserved
+reps-kept : {table table′ : List ℕ} {c d : Canon} {p p′ : runs.Pass} → d .count ≡ c .count → c .count ≤ mostEntries → ((id : ℕ) → p′ .rep id ≡ p .rep id) → ((k : ℕ) → k < preservedAt → cell table′ k ≡ cell table k)
+    → Reps table c p → Reps table′ d p′
+reps-kept {table} {table′} {c} {d} {p} {p′} n few same kept r =
+    record {
+      is = λ id. same id ∙ r .is id ∙ turn id (ltb id (c .count)) refl ∙ ap (λ (m : ℕ). repOf table′ m id) (sym n);
+      below = λ id lt. subst (λ (m : ℕ). p′ .rep id < m) (sym n) (subst (λ (x : ℕ). x < c .count) (sym (same id)) (r .below id (subst (λ (m : ℕ). id < m) n lt)));
+    }
+  where
+    turn : (id : ℕ) (b : Bool) → ltb id (c .count) ≡ b → if b (λ _. cell table id) (λ _. id) ≡ if b (λ _. cell table′ id) (λ _. id)
+    turn id true e = sym (kept id (let z = ltb-true id (c .count) e in omega arith))
+    turn id false e = refl
+
+both-zero : (b : Bool) (x : ℕ) → (b ≡ true → x ≡ 1) → (b ≡ false → x ≡ 0) → b ≡ not (eqb x 0)
+both-zero true x one nil = ap not (sym (ne-eqb x 0 (λ z. omega (arith, one refl))))
+both-zero false x one nil = ap not (sym (eq-eqb x 0 (nil refl)))
+
+module _ {table : List ℕ} {c : Canon} {w work : List ℕ} {id : ℕ} {pol : Polarity} {w1 work1 : List ℕ} where
+  -- the first pass is refused
+  pub canonicalizes-refused : {k : ℕ} {g : Given} {none : Pass} {r : RootAnswer} → OnePass table c w work id pol w1 work1 g → g ≡ Refused k → SecondShown g none r → NoneCounted none
+      → Canonicalizes table c w work id pol table w1 work1 r
+  canonicalizes-refused {k} {g} {none} {r} one e second nil =
+      record {
+        is = λ {p} {t} kn tb lent un lt.
+            let a = subst (λ (y : Given). Answers (pass p t id pol) (p .count) w1 work work1 heldAt y) e (one .is kn tb lent lt) .is in
+            subst (λ (y : runs.Answer). RootIs y w1 r) (sym (canonicalize-is p t id pol ∙ ap (afterFirst p t id pol) a))
+            (second .is (no k) (subst (λ (y : Given). Stores (no k) w1 y) (sym e) (record { is = refl })) (let z = nil .ops in omega arith) (λ x st z. refused-not z));
+        kept = λ un k. refl;
+      }
+
+  module _ {x : ℕ} {q : Pass} {g : Given} {table1 : List ℕ} {found : Bool} (one : OnePass table c w work id pol w1 work1 g) (e : g ≡ NodeG x q)
+      (de : Detects table work1 (c .count) table1 found) where
+    -- what the first pass gives, and what is found in its bits
+    first-is : {p : runs.Pass} {t : Reader} → Knows table c p t → Tabled p t → LentTo table w work → id < c .count → Answers (pass p t id pol) (p .count) w1 work work1 heldAt (NodeG x q)
+    first-is {p} {t} kn tb lent lt = subst (λ (y : Given). Answers (pass p t id pol) (p .count) w1 work work1 heldAt y) e (one .is kn tb lent lt)
+
+    found-is : {p : runs.Pass} {t : Reader} (kn : Knows table c p t) (tb : Tabled p t) (lent : LentTo table w work) (lt : id < c .count) → any isBoth (first-is kn tb lent lt .is .after .bits) ≡ found
+    found-is {p} {t} kn tb lent lt =
+        let a = first-is kn tb lent lt .is in
+        let m = pass-moves kn tb lt pol x (a .after) (a .is) in
+        sym (de .is ∙ ap (λ (n : ℕ). any isBoth (part work1 bitsAt n)) (sym (kn .count)) ∙ ap (any isBoth) (bits-part (a .keyed) (m .0 .steady (steady-fresh (p .count)) .bits)))
+
+    -- one pass is enough
+    pub canonicalizes-once : found ≡ false → Canonicalizes table c w work id pol table1 w1 work1 (ShownR (shownIn 1 (q .ops) (q .sorted) (q .bailed) x))
+    canonicalizes-once z =
+        record {
+          is = λ {p} {t} kn tb lent un lt.
+              let a = first-is kn tb lent lt .is in
+              let m = pass-moves kn tb lt pol x (a .after) (a .is) in
+              let st = a .after in
+              record {
+                is = record {
+                  pass = q;
+                  nodes = st .nodes;
+                  is =
+                      canonicalize-is p t id pol ∙ ap (afterFirst p t id pol) (a .is)
+                      ∙ ap (λ (b : Bool). if b (λ _. afterSecond (st .ops) (st .sorted) (pass (withSet p st) t id pol)) (λ _. shown 1 (st .ops) (st .sorted) (st .bailed) (st .nodes) x)) (found-is kn tb lent lt ∙ z)
+                      ∙ ap (λ (n : ℕ). shown 1 n (st .sorted) (st .bailed) (st .nodes) x) (a .stands .ops)
+                      ∙ ap (λ (b : Bool). shown 1 (q .ops) b (st .bailed) (st .nodes) x) (a .stands .sorted)
+                      ∙ ap (λ (b : Bool). shown 1 (q .ops) (q .sorted) b (st .nodes) x) (a .stands .bailed);
+                  arena = a .stands .arena;
+                  below = m .1;
+                };
+              };
+          kept = λ un k. ap (λ (l : List ℕ). cell l k) (de .none z);
+        }
+
+    -- the second pass's set is what the first saw in both polarities
+    knows-again : {p : runs.Pass} {t : Reader} {st : State} → Knows table c p t → Keyed (p .count) st work1 → Stands st w1 q → LentTo table w work → NonePreserved table (c .count)
+        → Knows table1 (again c q) (withSet p st) t
+    knows-again {p} {t} {st} kn keyed on lent un =
+        let few = kn .few in
+        let long = lent .table in
+        record {
+          count = kn .count;
+          few = kn .few;
+          reads = reads-alike refl refl (record { is = λ k le. de .behind k (omega arith) }) (kn .reads);
+          reps = reps-kept refl few (λ i. refl) (de .before) (kn .reps);
+          marked = λ i lt. kn .marked i lt ∙ ap (λ (y : ℕ). not (eqb y 0)) (sym (de .before (marksAt + i) (omega arith)));
+          preserved = λ i lt.
+              let same : cell (st .bits) i ≡ cell work1 (bitsAt + i) = sym (keyed .bits i (subst (λ (n : ℕ). i < n) (sym (kn .count)) lt)) in
+              ap isBoth same
+              ∙ both-zero (isBoth (cell work1 (bitsAt + i))) (cell table1 (preservedAt + i)) (λ y. de .seen i lt (omega arith) y) (λ y. de .unseen i y ∙ un .is i lt);
+          budget = kn .budget;
+          spent = on .ops;
+          functor = kn .functor;
+        }
+
+    tabled-again : {p : runs.Pass} {t : Reader} (st : State) → Tabled p t → Tabled (withSet p st) t
+    tabled-again st tb = record { few = tb .few; known = tb .known; orderly = tb .orderly; reps = tb .reps; ids = tb .ids }
+
+    module _ {w2 work2 : List ℕ} {g2 : Given} {table2 : List ℕ} {r : RootAnswer} where
+      -- a second pass is shown
+      pub canonicalizes-twice : found ≡ true → OnePass table1 (again c q) w1 work1 id pol w2 work2 g2 → Clears table1 preservedAt (c .count) table2 → SecondShown g2 q r
+          → length table1 ≡ length table → length w1 ≡ length w → length work1 ≡ length work
+          → Canonicalizes table c w work id pol table2 w2 work2 r
+      canonicalizes-twice z two cl second len-f len-w len-h =
+          record {
+            is = λ {p} {t} kn tb lent un lt.
+                let a = first-is kn tb lent lt .is in
+                let st = a .after in
+                let kn2 = knows-again kn (a .keyed) (a .stands) lent un in
+                let tb2 = tabled-again st tb in
+                let lf = lent .table in
+                let lw = lent .arena in
+                let lh = lent .work in
+                let o = pass (withSet p st) t id pol in
+                let b = two .is kn2 tb2 (record { table = omega arith; arena = omega arith; work = omega arith }) lt in
+                let most = pass-most kn tb lt pol x st (a .is) in
+                subst (λ (y : runs.Answer). RootIs y w2 r)
+                (sym (canonicalize-is p t id pol ∙ ap (afterFirst p t id pol) (a .is)
+                ∙ ap (λ (b : Bool). if b (λ _. afterSecond (st .ops) (st .sorted) o) (λ _. shown 1 (st .ops) (st .sorted) (st .bailed) (st .nodes) x)) (found-is kn tb lent lt ∙ z)
+                ∙ ap (λ (n : ℕ). afterSecond n (st .sorted) o) (a .stands .ops) ∙ ap (λ (b : Bool). afterSecond (q .ops) b o) (a .stands .sorted)))
+                (second .is o (pass-stores kn2 tb2 lt pol g2 b) (let n = a .stands .ops in omega arith) (pass-most kn2 tb2 lt pol));
+            kept = λ un k. by-place un k (ltb k preservedAt) refl;
+          }
+        where
+          above : NonePreserved table (c .count) → (k : ℕ) → preservedAt ≤ k → (b : Bool) → ltb k (preservedAt + c .count) ≡ b → cell table2 k ≡ cell table k
+          above un k lo true e =
+              let h = ltb-true k (preservedAt + c .count) e in
+              let m : k ≡ preservedAt + (k - preservedAt) = omega arith in
+              cl .zero k lo h ∙ sym (ap (cell table) m ∙ un .is (k - preservedAt) (omega arith))
+          above un k lo false e = let h = ltb-false k (preservedAt + c .count) e in cl .behind k h ∙ de .behind k h
+
+          by-place : NonePreserved table (c .count) → (k : ℕ) (b : Bool) → ltb k preservedAt ≡ b → cell table2 k ≡ cell table k
+          by-place un k true e = let h = ltb-true k preservedAt e in cl .before k h ∙ de .before k h
+          by-place un k false e = above un k (ltb-false k preservedAt e) (ltb k (preservedAt + c .count)) refl

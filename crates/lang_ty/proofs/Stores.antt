@@ -1,0 +1,103 @@
+-- What callers cite of the store: an answer taken apart, a store of each kind of node, and the slices with no node. Assumes nothing.
+use mathlib.Core.Path.{_≡_, refl, sym, ap, _∙_, subst}
+use Prim.Native.Nat.{ℕ, _+_, _*_, _≤_, _<_}
+use native.Mathlib.Omega.{arith}
+use mathlib.Core.List.{List, [], _∷_}
+use lib.ListN.{length}
+use Rattle.cells.specs.Part.{cell, part, Holds, Under}
+use Rattle.layout.specs.Layout.{arenaWords, arenaLength}
+use Rattle.rules.specs.Table.{Attr, attrKids}
+use Rattle.rules.specs.Types.{State, Out, no, Node, TyVar, Primitive, ListOf, Lambda, AttrSet, Union, Intersection, Named, Neg, Bottom, Top, encode, store}
+use Rattle.lang_ty.specs.declared.arena.Pass.{Pass}
+use Rattle.lang_ty.specs.declared.arena.Given.{Given}
+use Rattle.lang_ty.specs.declared.arena.Given.the-variants.{Node as NodeG, Refused}
+use Rattle.lang_ty.specs.Nodes.{Stands, Gives, Answer, Answers, Fits, Interned, Stored, Listed}
+
+module _ {o : Out ℕ} {w : List ℕ} {r : Given} where
+  pub gives : {x : ℕ} {q : Pass} → Answers o w r → r ≡ NodeG x q → Gives o w x q
+  gives a e = subst (λ (g : Given). Answer o w g) e (a .is)
+
+  pub refuses : {k : ℕ} → Answers o w r → r ≡ Refused k → o ≡ no k
+  refuses a e = subst (λ (g : Given). Answer o w g) e (a .is)
+
+-- an answer of equal outcomes
+pub answers-of : {o p : Out ℕ} {w : List ℕ} {r : Given} → o ≡ p → Answers p w r → Answers o w r
+answers-of {w = w} {r = r} e a = subst (λ (x : Out ℕ). Answers x w r) (sym e) a
+
+module _ {st : State} {w w′ : List ℕ} {q : Pass} {r : Given} (on : Stands st w q) where
+  -- a node without members, whose row has three words at most
+  plain : (n : Node) → Stored (encode n) 0 w q w′ r → Fits n (q .nodes) 0 → Answers (store n st) w′ r
+  plain n h f = h .is {n = n} on f refl
+
+  pub stored-bottom : Stored (9 ∷ []) 0 w q w′ r → Answers (store Bottom st) w′ r
+  stored-bottom h = plain Bottom h (record { cells = refl; few = omega arith; below = tt; short = omega arith })
+
+  pub stored-top : Stored (10 ∷ []) 0 w q w′ r → Answers (store Top st) w′ r
+  stored-top h = plain Top h (record { cells = refl; few = omega arith; below = tt; short = omega arith })
+
+  module _ {a : ℕ} where
+    pub stored-tyvar : Stored (0 ∷ a ∷ []) 0 w q w′ r → Answers (store (TyVar a) st) w′ r
+    stored-tyvar h = plain (TyVar a) h (record { cells = refl; few = omega arith; below = tt; short = omega arith })
+
+    pub stored-primitive : Stored (1 ∷ a ∷ []) 0 w q w′ r → Answers (store (Primitive a) st) w′ r
+    stored-primitive h = plain (Primitive a) h (record { cells = refl; few = omega arith; below = tt; short = omega arith })
+
+    pub stored-list : Stored (2 ∷ a ∷ []) 0 w q w′ r → a < q .nodes → Answers (store (ListOf a) st) w′ r
+    stored-list h lt = plain (ListOf a) h (record { cells = refl; few = omega arith; below = (lt, tt); short = omega arith })
+
+    pub stored-neg : Stored (8 ∷ a ∷ []) 0 w q w′ r → a < q .nodes → Answers (store (Neg a) st) w′ r
+    stored-neg h lt = plain (Neg a) h (record { cells = refl; few = omega arith; below = (lt, tt); short = omega arith })
+
+    module _ {b : ℕ} where
+      pub stored-lambda : Stored (3 ∷ a ∷ b ∷ []) 0 w q w′ r → a < q .nodes → b < q .nodes → Answers (store (Lambda a b) st) w′ r
+      stored-lambda h lt lt′ = plain (Lambda a b) h (record { cells = refl; few = omega arith; below = (lt, (lt′, tt)); short = omega arith })
+
+      pub stored-named : Stored (7 ∷ a ∷ b ∷ []) 0 w q w′ r → b < q .nodes → Answers (store (Named a b) st) w′ r
+      stored-named h lt = plain (Named a b) h (record { cells = refl; few = omega arith; below = (lt, tt); short = omega arith })
+
+      pub stored-union : Stored (5 ∷ 2 ∷ a ∷ b ∷ []) 2 w q w′ r → a < q .nodes → b < q .nodes → Answers (store (Union (a ∷ b ∷ [])) st) w′ r
+      stored-union h lt lt′ =
+          h .is {n = Union (a ∷ b ∷ [])} on (record { cells = refl; few = omega arith; below = (lt, (lt′, tt)); short = omega arith }) refl
+
+      pub stored-intersection : Stored (6 ∷ 2 ∷ a ∷ b ∷ []) 2 w q w′ r → a < q .nodes → b < q .nodes → Answers (store (Intersection (a ∷ b ∷ [])) st) w′ r
+      stored-intersection h lt lt′ =
+          h .is {n = Intersection (a ∷ b ∷ [])} on (record { cells = refl; few = omega arith; below = (lt, (lt′, tt)); short = omega arith }) refl
+
+  module _ {from : List ℕ} {a n : ℕ} (below : Under (q .nodes) (part from a n)) where
+    pub listed-union : Listed 5 from a n w q w′ r → Answers (store (Union (part from a n)) st) w′ r
+    listed-union h = h .is on (record { row = refl; cells = omega arith; members = refl; below = below })
+
+    pub listed-intersection : Listed 6 from a n w q w′ r → Answers (store (Intersection (part from a n)) st) w′ r
+    listed-intersection h = h .is on (record { row = refl; cells = omega arith; members = refl; below = below })
+
+-- a set whose row stands behind the others
+pub interned-set : {st : State} {w w′ : List ℕ} {q : Pass} {len cells : ℕ} {r : Given} (t : Attr) → Stands st w q → Interned w q len cells w′ r
+    → Holds w (cell w (q .nodes)) (encode (AttrSet t)) → len ≡ length (encode (AttrSet t)) → len ≤ 8192 → cells ≡ 2 * length (t .fields) + length (t .optional)
+    → Under (q .nodes) (attrKids t) → Answers (store (AttrSet t) st) w′ r
+interned-set t on h row size short cells below =
+    h .is {n = AttrSet t} on (record { cells = omega arith; few = omega arith; below = below; short = omega arith }) row size
+
+-- the slice holds no node
+pub stands-none : {st : State} {w : List ℕ} {q : Pass} → st .nodes ≡ [] → st .cells ≡ 0 → st .ops ≡ q .ops → st .sorted ≡ q .sorted → st .bailed ≡ q .bailed
+    → q .nodes ≡ 0 → q .cells ≡ 0 → cell w 0 ≡ arenaWords → arenaLength ≤ length w → Stands st w q
+stands-none {st} {w} {q} none cells ops sorted bailed nodes no-cells first room =
+    let few : length (st .nodes) ≡ 0 = ap length none in
+    let top : cell w (q .nodes) ≡ arenaWords = ap (cell w) nodes ∙ first in
+    record {
+      arena = record {
+        count = omega arith;
+        few = omega arith;
+        cells = omega arith;
+        first = omega arith;
+        rows = λ i lt. absurd (omega arith);
+        ends = λ i lt. absurd (omega arith);
+        top = omega arith;
+        below = λ i lt. absurd (omega arith);
+        slim = λ i lt. absurd (omega arith);
+        room = room;
+      };
+      cells = omega arith;
+      ops = ops;
+      sorted = sorted;
+      bailed = bailed;
+    }

@@ -1,0 +1,85 @@
+-- What lies where in the lent slices, and how long each is, under the names that the contracts use.
+use mathlib.Core.Path.{_≡_}
+use Prim.Native.Nat.{ℕ}
+
+-- a table: representatives from 0 on, marks, variables preserved, beginnings of rows, rows
+abbrev pub marksAt : ℕ
+marksAt = 2048
+
+abbrev pub preservedAt : ℕ
+preservedAt = 4096
+
+abbrev pub rowsAt : ℕ
+rowsAt = 6144
+
+abbrev pub tableWords : ℕ
+tableWords = 11842
+
+abbrev pub tableLength : ℕ
+tableLength = 77378
+
+-- nodes: beginnings of rows from 0 on, rows
+abbrev pub arenaWords : ℕ
+arenaWords = 4097
+
+abbrev pub arenaLength : ℕ
+arenaLength = 53249
+
+-- a line of an old listing
+abbrev pub lineLength : ℕ
+lineLength = 65536
+
+-- what a pass works with: keys from 0 on, polarity bits, ids seen, a negation's counters, lists held
+abbrev pub bitsAt : ℕ
+bitsAt = 4096
+
+abbrev pub seenAt : ℕ
+seenAt = 6144
+
+abbrev pub countedNodes : ℕ
+countedNodes = 8192
+
+abbrev pub countedCells : ℕ
+countedCells = 8193
+
+abbrev pub heldAt : ℕ
+heldAt = 8194
+
+-- a merge holds its fields in one of two areas behind each other
+abbrev pub areaLength : ℕ
+areaLength = 2048
+
+abbrev pub workLength : ℕ
+workLength = 49152
+
+-- in the old table of a recheck, behind the places of the roots' old lines
+abbrev pub redoneAt : ℕ
+redoneAt = 65
+
+abbrev pub draftLength : ℕ
+draftLength = 65536
+
+-- the code's numbers are these
+pub record TableStated (marks preserved rows words : ℕ) : Type 0 where
+  pub marks-at : marks ≡ marksAt
+  pub preserved-at : preserved ≡ preservedAt
+  pub rows-at : rows ≡ rowsAt
+  pub words-at : words ≡ tableWords
+
+pub record PassStated (words bits seen held : ℕ) : Type 0 where
+  pub words-at : words ≡ arenaWords
+  pub bits-at : bits ≡ bitsAt
+  pub seen-at : seen ≡ seenAt
+  pub held-at : held ≡ heldAt
+
+pub record OthersStated (nodes cells redone line : ℕ) : Type 0 where
+  pub nodes-at : nodes ≡ countedNodes
+  pub cells-at : cells ≡ countedCells
+  pub redone-at : redone ≡ redoneAt
+  pub of-line : line ≡ lineLength
+
+pub record LengthsStated (table arena work draft : ℕ) : Type 0 where
+  pub of-table : table ≡ tableLength
+  pub of-arena : arena ≡ arenaLength
+  pub of-work : work ≡ workLength
+  pub of-draft : draft ≡ draftLength

@@ -1,0 +1,4 @@
+pub mod Fields
+pub mod MergeFields
+pub mod MergeSets
+pub mod MergeStore

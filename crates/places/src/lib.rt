@@ -1,4 +1,0 @@
-// What is made of answers in a place: a variable's expanded bounds, a union, an intersection.
-pub mod bounds;
-pub mod concrete;
-pub mod lists;

@@ -1,0 +1,25 @@
+use Rattle.prepare.proofs.Facts.{prepare-is}
+use borrow.Author.Needs.{needs}
+use Rattle.prepare.proofs.prepare.Statement.{statement}
+use Rattle.prepare.proofs.prepare.Tie as tie
+
+returns : tie.Need-returns
+returns c = search prepare-is
+
+pub prepare-spec : {M : Type 1} → statement M
+prepare-spec =
+    tie.close
+    (tie.spec
+    (λ c _. search needs)
+    (λ c _. search needs)
+    (λ c _. search needs)
+    (λ c _. search needs)
+    (λ c _. search needs)
+    (λ c _. search needs)
+    (λ c _. search needs)
+    (λ c _. search needs)
+    (λ c _. search needs)
+    (λ c _. search needs)
+    (λ c _. search needs)
+    (λ c. search needs)
+    returns)

@@ -1,4 +1,0 @@
--- The rows of a table that was read, and what its runs are given.
-pub mod Shapes
-pub mod Preparing
-pub mod Giving

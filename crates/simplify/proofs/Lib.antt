@@ -1,0 +1,6 @@
+pub mod Cancelled
+pub mod Absorbed
+pub mod Marked
+pub mod Redundant
+pub mod Contradiction
+pub mod Simplified

@@ -1,0 +1,40 @@
+use Rattle.rules.specs.Members.{are-output-types-disjoint}
+use Rattle.simplify.proofs.Redundant.{Probing, probing-start, probing-here, probing-more, probing-done}
+use Rattle.simplify.proofs.Contradiction.{disjoint-pairs}
+use borrow.Author.Needs.{needs}
+use Prim.Native.Nat.{_-_}
+use Rattle.simplify.proofs.intersections.disjoint_from_one.Statement.{statement}
+use Rattle.simplify.proofs.intersections.disjoint_from_one.Tie as tie
+
+abbrev Inv-loop : tie.InvT-loop
+Inv-loop arena functor s from n x i₀ i = Probing (are-output-types-disjoint functor) arena s from n x i
+
+abbrev μ-loop : tie.MeasureT-loop
+μ-loop arena functor s from n x i₀ i = n - i
+
+loop-holds : tie.Need-loop-holds Inv-loop μ-loop
+loop-holds c = probing-start
+
+returns : tie.Need-returns Inv-loop μ-loop
+returns c = probing-here (c .before .before .before .before .loop .inv) (c .before .before .before .loop-test .taken) (c .before .before .at .ensures) (disjoint-pairs (c .before .are-shapes-disjoint .ensures)) (c .if1 .taken)
+
+loop-again : tie.Need-loop-again Inv-loop μ-loop
+loop-again c = probing-more (c .before .before .before .before .loop .inv) (c .before .before .before .loop-test .taken) (c .before .before .at .ensures) (disjoint-pairs (c .before .are-shapes-disjoint .ensures)) (c .if1 .left)
+
+returns-2 : tie.Need-returns-2 Inv-loop μ-loop
+returns-2 c = probing-done (c .before .loop .inv) (c .loop-test .left)
+
+pub disjoint-from-one-spec : {M : Type 1} → statement M
+disjoint-from-one-spec =
+    tie.close
+    (tie.spec
+    Inv-loop
+    μ-loop
+    loop-holds
+    (λ c _. search needs)
+    (λ c _. search needs)
+    returns
+    (λ c. search needs)
+    (λ c. search needs)
+    loop-again
+    returns-2)

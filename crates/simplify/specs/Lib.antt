@@ -1,0 +1,2 @@
+pub mod Unions
+pub mod Intersections

@@ -1,0 +1,10 @@
+pub mod Noted
+pub mod Variables
+pub mod SetNodes
+pub mod Forests
+pub mod Sifted
+pub mod EntryReads
+pub mod Alike
+pub mod HeldIds
+pub mod HeldOnce
+pub mod HeldBounds
