@@ -1,24 +1,27 @@
 -- What each way out of a public call comes to. Assumes nothing.
-use mathlib.Core.Path.{_≡_, refl, sym, ap, subst, _∙_}
+use mathlib.Core.Path.{_≡_, refl, sym, ap, ap₂, subst, _∙_}
 use mathlib.Core.Bool.{Bool, true, false}
-use Prim.Native.Nat.{ℕ, _≤_, _<_}
-use mathlib.Core.List.{List, [], _∷_, _++_}
-use lib.ListN.{length, replicate}
-use lib.Dec.{T, eqb, ltb}
+use Prim.Native.Nat.{ℕ, suc, _+_, _≤_, _<_}
+use mathlib.Core.List.{List, [], _∷_, _++_, append-nil}
+use lib.ListN.{length, replicate, take, drop, getD, set, length-set, length-append}
+use lib.Seq.{paste-suc, set-append-seam, append-snoc, take-append-seam}
+use lib.Dec.{ltb}
 use native.Mathlib.Omega.{arith}
+use native.Mathlib.Nat.{not-suc-le-zero}
 use borrow.Author.Tests.{ltb-false, lt-ltb, le-ltb}
 use Rattle.cells.specs.Part.{if}
 use Rattle.layout.specs.Layout.{draftLength, tableLength, arenaLength, workLength}
-use Rattle.rules.specs.Plain.{any, contains}
-use Rattle.rules.specs.Table.{Table, Result}
-use Rattle.rules.specs.Numbers.{tableNumbers, RefusedBy}
-use Rattle.rules.proofs.Told.{told}
-use Rattle.table.specs.Rows.{outcome, ReadInto}
+use Rattle.rules.specs.Table.{Sections, Result, accepted, refused, then, sectionsOf, fromSections, tableOf}
+use Rattle.rules.specs.Calls.{fits, leaves}
+use Rattle.table.specs.Rows.{tableFrom, outcome, ReadInto}
+use Rattle.table.specs.declared.Table.{Table}
 use Rattle.table.specs.declared.Answer.{Answer}
-use Rattle.table.specs.declared.Answer.the-variants.{Refused as TableRefused}
-use Rattle.answers.specs.Outcomes.{isShort, Short, Told, Answered, Zero}
+use Rattle.table.specs.declared.Answer.the-variants.{Accepted, Refused as TableRefused}
+use Rattle.listing.specs.Writes.{over}
+use Rattle.answers.specs.Outcomes.{isShort, Short, Copies, outcomeOf, Says, Zero}
+use Rattle.answers.specs.Runs.{Text}
 use Rattle.answers.specs.declared.outcome.Outcome.{Outcome}
-use Rattle.answers.specs.declared.outcome.Outcome.the-variants.{Refused}
+use Rattle.answers.specs.declared.outcome.Outcome.the-variants.{Written, Refused}
 
 -- each way out of `is_short`
 module _ (d t a w : ℕ) where
@@ -43,37 +46,116 @@ pub passed-on : (x y : Bool) → if x (λ _. true) (λ _. y) ≡ false → (x �
 passed-on true y e = absurd (let z : _≡_ {A = ℕ} 0 1 = cc in omega arith)
 passed-on false y e = (refl, e)
 
--- a table's slice is as long as it must be
-pub not-short : {d t a w : ℕ} {b : Bool} → Short d t a w b → b ≡ false → tableLength ≤ t
+-- the slices of a run are as long as they must be
+pub long-enough : {d t a w : ℕ} {b : Bool} → Short d t a w b → b ≡ false → (tableLength ≤ t) × (arenaLength ≤ a) × (workLength ≤ w)
 unfolding isShort
-not-short {d} {t} h e = ltb-false t tableLength (passed-on (ltb t tableLength) _ (passed-on (ltb d draftLength) _ (sym (h .is) ∙ e) .1) .0)
+long-enough {d} {t} {a} {w} h e =
+    let p = passed-on (ltb d draftLength) _ (sym (h .is) ∙ e) in
+    let q = passed-on (ltb t tableLength) _ (p .1) in
+    let r = passed-on (ltb a arenaLength) _ (q .1) in
+    (ltb-false t tableLength (q .0), ltb-false a arenaLength (r .0), ltb-false w workLength (r .1))
 
--- what is among the first is among all
-any-step : (b : Bool) (x y : Bool) → (T x → T y) → T (if b (λ _. true) (λ _. x)) → T (if b (λ _. true) (λ _. y))
-any-step true x y f h = tt
-any-step false x y f h = f h
+pub not-short : {d t a w : ℕ} {b : Bool} → Short d t a w b → b ≡ false → tableLength ≤ t
+not-short h e = long-enough h e .0
 
-any-more : (p : ℕ → Bool) (xs ys : List ℕ) → T (any p xs) → T (any p (xs ++ ys))
-any-more p [] ys h = absurd h
-any-more p (x ∷ xs) ys h = any-step (p x) (any p xs) (any p (xs ++ ys)) (any-more p xs ys) h
+-- what the sections of a text say of its table
+table-of : (text : List ℕ) {s : Result Sections} → sectionsOf text ≡ s → tableOf text ≡ then s (λ (u : Sections). accepted (fromSections u))
+unfolding tableOf
+table-of text e = ap (λ (s : Result Sections). then s (λ (u : Sections). accepted (fromSections u))) e
 
--- a table's refusal is 1 to 5
-read-told : {text w w′ : List ℕ} {a : Answer} {k l : ℕ} → ReadInto text w w′ a → a ≡ TableRefused k l → T (contains tableNumbers k)
-read-told {text} {w} {w′} {a} {k} {l} r e =
-    subst (λ (x : Result Table). RefusedBy tableNumbers x) (sym (r .read .is) ∙ ap (λ (b : Answer). outcome b w′) e) (told text)
+-- what a text that was read says of its table
+pub refused-read : {text w w′ : List ℕ} {a : Answer} {k l : ℕ} → ReadInto text w w′ a → a ≡ TableRefused k l → tableOf text ≡ refused k l
+refused-read {text} {w} {w′} q e = table-of text (sym (q .read .is) ∙ ap (λ (x : Answer). outcome x w′) e)
+
+pub accepted-read : {text w w′ : List ℕ} {a : Answer} {t : Table} → ReadInto text w w′ a → a ≡ Accepted t → tableOf text ≡ accepted (fromSections (tableFrom t w′))
+accepted-read {text} {w} {w′} q e = table-of text (sym (q .read .is) ∙ ap (λ (x : Answer). outcome x w′) e)
+
+-- the first i bytes of the draft are copied
+pub record Copying (out₀ draft out : List ℕ) (n i : ℕ) : Type 0 where
+  pub few : i ≤ n
+  pub same : length out ≡ length out₀
+  pub is : out ≡ take i draft ++ drop i out₀
+
+pasted : (out draft : List ℕ) (i : ℕ) → i < length out → i < length draft
+    → set (take i draft ++ drop i out) i (getD draft i 0) ≡ take (suc i) draft ++ drop (suc i) out
+pasted out draft i room long =
+    let z : 0 + i ≡ i = omega arith in
+    let y : 0 + suc i ≡ suc i = omega arith in
+    ap₂ {C = List ℕ} (λ (j k : ℕ). set (take i draft ++ drop j out) k (getD draft i 0)) (sym z) (sym z)
+    ∙ paste-suc out 0 draft i 0 (omega arith) long
+    ∙ ap (λ (k : ℕ). take (suc i) draft ++ drop k out) y
+
+pub copying-start : {out draft : List ℕ} {n : ℕ} → Copying out draft out n 0
+copying-start = record { few = omega arith; same = refl; is = refl }
+
+pub copying-more : {out₀ draft out : List ℕ} {n i b : ℕ} → Copying out₀ draft out n i → i < n → n ≤ length out₀ → n ≤ length draft → b ≡ getD draft i 0
+    → Copying out₀ draft (set out i b) n (i + 1)
+copying-more {out₀} {draft} {out} {n} {i} {b} c lt room long e =
+    let next : suc i ≡ i + 1 = omega arith in
+    record {
+      few = omega arith;
+      same = length-set out i b ∙ c .same;
+      is = ap₂ {C = List ℕ} (λ (l : List ℕ) (x : ℕ). set l i x) (c .is) e
+          ∙ pasted out₀ draft i (omega arith) (omega arith)
+          ∙ ap (λ (k : ℕ). take k draft ++ drop k out₀) next;
+    }
+
+pub copying-done : {out₀ draft out : List ℕ} {n i : ℕ} → Copying out₀ draft out n i → n ≤ i → Copies out₀ draft n out
+copying-done {out₀} {draft} {out} {n} {i} c h =
+    let e : i ≡ n = omega (arith, c .few) in record { is = c .is ∙ ap (λ (k : ℕ). take k draft ++ drop k out₀) e }
+
+-- a text that was written from the beginning on stands there, where there is room for it
+over-within : (front o t : List ℕ) → length t ≤ length o → over (front ++ o) (length front) t ≡ front ++ t ++ drop (length t) o
+over-within front o [] h = ap (λ (l : List ℕ). l ++ o) (sym (append-nil front))
+over-within front [] (b ∷ t) h = absurd (not-suc-le-zero h)
+over-within front (x ∷ o) (b ∷ t) h =
+    let n : suc (length front) ≡ length (front ++ (b ∷ [])) = omega (arith, length-append front (b ∷ [])) in
+    ap (λ (l : List ℕ). over l (suc (length front)) t) (set-append-seam front x o b ∙ sym (append-snoc front b o))
+    ∙ ap (λ (k : ℕ). over (front ++ (b ∷ []) ++ o) k t) n
+    ∙ over-within (front ++ (b ∷ [])) o t (omega arith)
+    ∙ ap (λ (l : List ℕ). l ++ drop (length t) o) (append-snoc front b t)
+
+pub over-whole : (o t : List ℕ) → length t ≤ length o → over o 0 t ≡ t ++ drop (length t) o
+over-whole o t h = over-within [] o t h
+
+-- what a text of that size comes to
+module _ (text out : List ℕ) where
+  pub too-long : {size : ℕ} → size ≡ length text → length out < size → Says (leaves out (fits (length out) text)) out (Refused 12 0)
+  too-long e h =
+      let z : length out < length text = omega arith in
+      subst (λ (b : Bool). Says (leaves out (if b (λ _. refused 12 0) (λ _. accepted text))) out (Refused 12 0)) (sym (lt-ltb (length out) (length text) z))
+      (record { outcome = refl; output = refl })
+
+  pub in-place : {out′ : List ℕ} {size : ℕ} → size ≡ length text → size ≤ length out → out′ ≡ text ++ drop (length text) out
+      → Says (leaves out (fits (length out) text)) out′ (Written size)
+  in-place {out′} {size} e h f =
+      let z : length text ≤ length out = omega arith in
+      subst (λ (b : Bool). Says (leaves out (if b (λ _. refused 12 0) (λ _. accepted text))) out′ (Written size)) (sym (le-ltb (length out) (length text) z))
+      (record { outcome = ap (λ (n : ℕ). accepted n) e; output = f })
+
+  -- written once more, straight into the output
+  pub written-anew : {out′ : List ℕ} {size r : ℕ} → size ≡ length text → size ≤ length out → Text text out out′ r
+      → Says (leaves out (fits (length out) text)) out′ (Written size)
+  written-anew e h w = in-place e h (w .is ∙ over-whole out text (omega arith))
+
+  -- copied from a draft
+  pub copied-out : {out′ blank draft : List ℕ} {size : ℕ} → Text text blank draft size → size ≤ length out → size ≤ length draft → length draft ≡ length blank
+      → Copies out draft size out′ → Says (leaves out (fits (length out) text)) out′ (Written size)
+  copied-out {out′} {blank} {draft} {size} w h long l c =
+      let e = w .size in
+      let d : draft ≡ text ++ drop (length text) blank = w .is ∙ over-whole blank text (omega arith) in
+      in-place e h
+      (c .is
+      ∙ ap₂ {C = List ℕ} (λ (k : ℕ) (x : List ℕ). take k x ++ drop k out) e d
+      ∙ ap (λ (x : List ℕ). x ++ drop (length text) out) (take-append-seam text (drop (length text) blank)))
+
+-- the rules' outcome is one of the code's
+pub outcome-one : (r s : Outcome) → outcomeOf r ≡ outcomeOf s → r ≡ s
+outcome-one (Written m) (Written n) e = cc
+outcome-one (Written m) (Refused k l) e = absurd (let z : _≡_ {A = ℕ} 0 1 = cc in omega arith)
+outcome-one (Refused k l) (Written n) e = absurd (let z : _≡_ {A = ℕ} 0 1 = cc in omega arith)
+outcome-one (Refused k l) (Refused m n) e = cc
 
 -- a scratch wiped behind what kept its length
 pub zeroed : {s u : List ℕ} {n : ℕ} → u ≡ replicate n 0 → n ≡ length s → Zero s u
 zeroed e l = record { is = e ∙ ap (λ (n : ℕ). replicate n 0) l }
-
--- each way out of a call that gives a table's numbers and some more; b is what the test for a short scratch said
-module _ {short b : Bool} (more out : List ℕ) (h : b ≡ short) where
-  pub short-out : b ≡ true → Answered (tableNumbers ++ more) short out out (Refused 20 0)
-  short-out e = record { kept = refl; told = subst (λ (x : Bool). Told (tableNumbers ++ more) x (Refused 20 0)) (sym e ∙ h) refl }
-
-  pub refused-out : b ≡ false → {text w w′ : List ℕ} {a : Answer} {n l : ℕ} → ReadInto text w w′ a → a ≡ TableRefused n l → Answered (tableNumbers ++ more) short out out (Refused n l)
-  refused-out e {n = n} {l = l} q g =
-      record { kept = refl; told = subst (λ (x : Bool). Told (tableNumbers ++ more) x (Refused n l)) (sym e ∙ h) (any-more (eqb n) tableNumbers more (read-told q g)) }
-
-  pub listed-out : b ≡ false → {out′ : List ℕ} {o : Outcome} → Answered (tableNumbers ++ more) false out out′ o → Answered (tableNumbers ++ more) short out out′ o
-  listed-out e {o = o} a = record { kept = a .kept; told = subst (λ (x : Bool). Told (tableNumbers ++ more) x o) (sym e ∙ h) (a .told) }

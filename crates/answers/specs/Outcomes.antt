@@ -1,14 +1,14 @@
 -- What every public call promises.
 use mathlib.Core.Path.{_≡_}
-use mathlib.Core.Bool.{Bool, true, false}
+use mathlib.Core.Bool.{Bool, true}
 use Prim.Native.Nat.{ℕ, _≤_}
-use mathlib.Core.List.{List, [], _∷_, _++_}
-use lib.ListN.{length, replicate}
-use lib.Dec.{T, ltb}
+use mathlib.Core.List.{List, _++_}
+use lib.ListN.{length, replicate, take, drop}
+use lib.Dec.{ltb}
 use Rattle.cells.specs.Part.{if}
 use Rattle.layout.specs.Layout.{draftLength, tableLength, arenaLength, workLength}
-use Rattle.rules.specs.Plain.{contains}
-use Rattle.rules.specs.Numbers.{tableNumbers}
+use Rattle.rules.specs.Table.{Result, accepted, refused}
+use Rattle.rules.specs.Calls.{Left}
 use Rattle.answers.specs.declared.outcome.Outcome.{Outcome}
 use Rattle.answers.specs.declared.outcome.Outcome.the-variants.{Written, Refused}
 
@@ -28,28 +28,19 @@ pub record Fits (out draft : List ℕ) (n : ℕ) : Type 0 where
   pub room : n ≤ length out
   pub long : n ≤ length draft
 
--- "Any refusal but 6 to 9 leaves the lent output as found"
-abbrev pub Kept : List ℕ → List ℕ → Outcome → Type 0
-Kept out out′ (Written n) = Unit {0}
-Kept out out′ (Refused k l) = out′ ≡ out
+-- the first n bytes of the draft, and behind them what stood there
+pub record Copies (out draft : List ℕ) (n : ℕ) (out′ : List ℕ) : Type 0 where
+  pub is : out′ ≡ take n draft ++ drop n out
 
--- the numbers that canon and canon_root give, but for 20
-abbrev pub canonNumbers : List ℕ
-canonNumbers = tableNumbers ++ (12 ∷ [])
+-- what a call comes to, as the rules have it
+abbrev pub outcomeOf : Outcome → Result ℕ
+outcomeOf (Written n) = accepted n
+outcomeOf (Refused k l) = refused k l
 
--- those that recheck gives, but for 20
-abbrev pub recheckNumbers : List ℕ
-recheckNumbers = tableNumbers ++ (10 ∷ 11 ∷ 12 ∷ [])
-
--- 20 exactly where a scratch is short, and "20 before all"; otherwise one of the numbers
-abbrev pub Told : List ℕ → Bool → Outcome → Type 0
-Told numbers true r = r ≡ Refused 20 0
-Told numbers false (Written n) = Unit {0}
-Told numbers false (Refused k l) = T (contains numbers k)
-
-pub record Answered (numbers : List ℕ) (short : Bool) (out out′ : List ℕ) (r : Outcome) : Type 0 where
-  pub kept : Kept out out′ r
-  pub told : Told numbers short r
+-- a call that comes to this outcome and leaves this output does what the rules say
+pub record Says (l : Left) (out′ : List ℕ) (r : Outcome) : Type 0 where
+  pub outcome : outcomeOf r ≡ l .outcome
+  pub output : out′ ≡ l .output
 
 -- "scratch is zero at every return"
 pub record Zero (s s′ : List ℕ) : Type 0 where

@@ -3,7 +3,7 @@ use layout::ArenaSlice;
 use layout::DraftSlice;
 use layout::TableSlice;
 use layout::WorkSlice;
-ghost use Rattle.answers.specs.Outcomes.{Short, Fits};
+ghost use Rattle.answers.specs.Outcomes.{Short, Fits, Copies};
 
 // So many bytes written, or a refusal with number and line.
 pub enum Outcome {
@@ -30,6 +30,7 @@ pub fn is_short(draft: usize, table: usize, arena: usize, work: usize) -> bool
 // The first n bytes of the draft copied to the output.
 pub fn copy(out: &mut [u8], draft: &[u8], n: usize)
     requires { ⌜ Fits (now out) (now draft) n ⌝ }
+    ensures { λ _. ⌜ Copies (now (out .entry)) (now (draft .entry)) n (now (out .exit)) ⌝ }
 {
     let mut i: usize = 0;
     while i < n {

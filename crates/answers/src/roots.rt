@@ -7,9 +7,11 @@ use listing::lines::Head;
 use listing::lines;
 use prepare::Prepared;
 use rules::Polarity;
-use storage::given::Canon;
+ghost use Rattle.answers.specs.Runs.{PolarityIs, WritesRefused, WritesRoot, WritesNext, WritesRoots};
 
-fn polarity(sign: u32) -> Polarity {
+fn polarity(sign: u32) -> Polarity
+    ensures { λ r. ⌜ PolarityIs sign r ⌝ }
+{
     if sign == 0 { Polarity::Positive } else { Polarity::Negative }
 }
 
@@ -17,13 +19,17 @@ fn polarity(sign: u32) -> Polarity {
 pub fn write_root(
     out: &mut [u8],
     table: &mut [u32],
-    c: Canon,
+    g: Prepared,
     arena: &mut [u32],
     work: &mut [u32],
     p: u32,
     id: u32,
     sign: u32,
-) -> u32 {
+) -> u32
+    ensures { λ r. ⌜ WritesRoot (now (table .entry)) g (now (arena .entry)) (now (work .entry)) p id sign (now (out .entry)) (now (table .exit))
+        (now (out .exit)) r ⌝ }
+{
+    let c = g.canon;
     let answer = collect::canonicalize(table, c, arena, work, id, polarity(sign));
     let RootAnswer::Shown(s) = answer else {
         return write_refused(out, p, id, sign, answer);
@@ -35,11 +41,13 @@ pub fn write_root(
         bailed: s.bailed,
         node: s.node,
     };
-    lines::root_lines(arena, work, out, p, id, sign, head)
+    lines::root_lines(out, arena, work, p, id, sign, head)
 }
 
 // The line of a refused root.
-fn write_refused(out: &mut [u8], p: u32, id: u32, sign: u32, answer: RootAnswer) -> u32 {
+fn write_refused(out: &mut [u8], p: u32, id: u32, sign: u32, answer: RootAnswer) -> u32
+    ensures { λ r. ⌜ WritesRefused p id sign answer (now (out .entry)) (now (out .exit)) r ⌝ }
+{
     match answer {
         RootAnswer::Shown(_) => p,
         RootAnswer::Refused(k) => lines::refused_root(out, p, id, sign, k),
@@ -55,12 +63,14 @@ pub fn write_next(
     work: &mut [u32],
     p: u32,
     i: u32,
-) -> u32 {
+) -> u32
+    ensures { λ r. ⌜ WritesNext (now (table .entry)) g (now (arena .entry)) (now (work .entry)) p i (now (out .entry)) (now (table .exit))
+        (now (out .exit)) r ⌝ }
+{
     let row = get(table, place(g.first, i));
-    let c = g.canon;
     let id = get(table, place(row, 1));
     let sign = get(table, place(row, 2));
-    write_root(out, table, c, arena, work, p, id, sign)
+    write_root(out, table, g, arena, work, p, id, sign)
 }
 
 // The lines of every root of the table, behind the line `answers`; the length of the text.
@@ -70,7 +80,9 @@ pub fn write_roots(
     g: Prepared,
     arena: &mut [u32],
     work: &mut [u32],
-) -> u32 {
+) -> u32
+    ensures { λ r. ⌜ WritesRoots (now (table .entry)) g (now (arena .entry)) (now (work .entry)) (now (out .entry)) (now (table .exit)) (now (out .exit)) r ⌝ }
+{
     let n = g.roots;
     let mut p = lines::answers(out, 0, n);
     let mut i = 0;

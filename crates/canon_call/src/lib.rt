@@ -1,13 +1,9 @@
 // canon and canon_root. A call tests what is lent to it, refuses a short scratch with 20 before all else, and leaves every scratch zero.
-ghost use mathlib.Core.Bool.{false};
-ghost use lib.ListN.{length};
-ghost use Rattle.answers.specs.Outcomes.{isShort, canonNumbers, Answered};
-ghost use Rattle.canon_call.specs.Called.{Called};
+ghost use Rattle.canon_call.specs.Called.{WritesAsked, Delivers, Lists, IsNoEntry, ListsAsked, Answers, calledWith, Called, Canon, CanonRoot};
 use answers::outcome::Outcome;
 use answers::outcome;
 use answers::roots;
 use cells::clear;
-use cells::small;
 use cells::wipe;
 use cells::wipe_bytes;
 use layout::TableSlice;
@@ -31,13 +27,13 @@ fn write_asked(
     arena: &mut [u32],
     work: &mut [u32],
     asked: Asked,
-) -> u32 {
+) -> u32
+    ensures { λ r. ⌜ WritesAsked (now (table .entry)) g (now (arena .entry)) (now (work .entry)) asked (now (out .entry)) (now (table .exit))
+        (now (out .exit)) r ⌝ }
+{
     match asked {
         Asked::All => roots::write_roots(out, table, g, arena, work),
-        Asked::Root(id, sign) => {
-            let c = g.canon;
-            roots::write_root(out, table, c, arena, work, 0, id, sign)
-        }
+        Asked::Root(id, sign) => roots::write_root(out, table, g, arena, work, 0, id, sign),
     }
 }
 
@@ -53,7 +49,8 @@ fn deliver(
     size: u32,
     asked: Asked,
 ) -> Outcome
-    ensures { λ r. ⌜ Answered canonNumbers false (now (out .entry)) (now (out .exit)) r ⌝ }
+    ensures { λ r. ⌜ Delivers (now (out .entry)) (now (draft .entry)) (now (table .entry)) g (now (arena .entry)) (now (work .entry)) size asked
+        (now (out .exit)) r ⌝ }
 {
     let len = size as usize;
     if out.len() < len {
@@ -77,7 +74,7 @@ fn list(
     work: &mut [u32],
     asked: Asked,
 ) -> Outcome
-    ensures { λ r. ⌜ Answered canonNumbers false (now (out .entry)) (now (out .exit)) r ⌝ }
+    ensures { λ r. ⌜ Lists (now (out .entry)) (now (table .entry)) t (now (arena .entry)) (now (work .entry)) asked (now (out .exit)) r ⌝ }
 {
     let g = prepare(table, t);
     let size = write_asked(draft, table, g, arena, work, asked);
@@ -85,10 +82,12 @@ fn list(
 }
 
 // Whether the id that is asked for is no entry of the table.
-fn is_no_entry(t: Table, asked: Asked) -> bool {
+fn is_no_entry(t: Table, asked: Asked) -> bool
+    ensures { λ r. ⌜ IsNoEntry t asked r ⌝ }
+{
     match asked {
         Asked::All => false,
-        Asked::Root(id, _) => small(t.entries) <= id,
+        Asked::Root(id, _) => t.entries <= id as usize,
     }
 }
 
@@ -102,7 +101,7 @@ fn list_asked(
     work: &mut [u32],
     asked: Asked,
 ) -> Outcome
-    ensures { λ r. ⌜ Answered canonNumbers false (now (out .entry)) (now (out .exit)) r ⌝ }
+    ensures { λ r. ⌜ ListsAsked (now (out .entry)) (now (table .entry)) t (now (arena .entry)) (now (work .entry)) asked (now (out .exit)) r ⌝ }
 {
     if is_no_entry(t, asked) {
         return Outcome::Refused(3, 0);
@@ -120,7 +119,8 @@ fn answer(
     arena: &mut [u32],
     work: &mut [u32],
 ) -> Outcome
-    ensures { λ r. ⌜ Answered canonNumbers (isShort (length (now (draft .entry))) (length (now (table .entry))) (length (now (arena .entry))) (length (now (work .entry)))) (now (out .entry)) (now (out .exit)) r ⌝ }
+    ensures { λ r. ⌜ Answers (now (text .entry)) asked (now (out .entry)) (now (draft .entry)) (now (table .entry)) (now (arena .entry))
+        (now (work .entry)) (now (out .exit)) r ⌝ }
 {
     if outcome::is_short(draft.len(), table.len(), arena.len(), work.len()) {
         return Outcome::Refused(20, 0);
@@ -143,7 +143,10 @@ fn call(
     arena: &mut [u32],
     work: &mut [u32],
 ) -> Outcome
-    ensures { λ r. ⌜ Called (now (out .entry)) (now (draft .entry)) (now (table .entry)) (now (arena .entry)) (now (work .entry)) (now (out .exit)) (now (draft .exit)) (now (table .exit)) (now (arena .exit)) (now (work .exit)) r ⌝ }
+    ensures { λ r. ⌜ Called
+        (calledWith asked (now (text .entry)) (now (out .entry)) (now (draft .entry)) (now (table .entry)) (now (arena .entry)) (now (work .entry)))
+        (now (draft .entry)) (now (table .entry)) (now (arena .entry)) (now (work .entry)) (now (out .exit)) (now (draft .exit)) (now (table .exit))
+        (now (arena .exit)) (now (work .exit)) r ⌝ }
 {
     let r = answer(text, asked, out, draft, table, arena, work);
     wipe_bytes(draft);
@@ -162,7 +165,8 @@ pub fn canon(
     arena: &mut [u32],
     work: &mut [u32],
 ) -> Outcome
-    ensures { λ r. ⌜ Called (now (out .entry)) (now (draft .entry)) (now (table .entry)) (now (arena .entry)) (now (work .entry)) (now (out .exit)) (now (draft .exit)) (now (table .exit)) (now (arena .exit)) (now (work .exit)) r ⌝ }
+    ensures { λ r. ⌜ Canon (now (text .entry)) (now (out .entry)) (now (draft .entry)) (now (table .entry)) (now (arena .entry)) (now (work .entry))
+        (now (out .exit)) (now (draft .exit)) (now (table .exit)) (now (arena .exit)) (now (work .exit)) r ⌝ }
 {
     call(text, Asked::All, out, draft, table, arena, work)
 }
@@ -178,7 +182,8 @@ pub fn canon_root(
     arena: &mut [u32],
     work: &mut [u32],
 ) -> Outcome
-    ensures { λ r. ⌜ Called (now (out .entry)) (now (draft .entry)) (now (table .entry)) (now (arena .entry)) (now (work .entry)) (now (out .exit)) (now (draft .exit)) (now (table .exit)) (now (arena .exit)) (now (work .exit)) r ⌝ }
+    ensures { λ r. ⌜ CanonRoot (now (text .entry)) id sign (now (out .entry)) (now (draft .entry)) (now (table .entry)) (now (arena .entry))
+        (now (work .entry)) (now (out .exit)) (now (draft .exit)) (now (table .exit)) (now (arena .exit)) (now (work .exit)) r ⌝ }
 {
     call(text, Asked::Root(id, sign), out, draft, table, arena, work)
 }

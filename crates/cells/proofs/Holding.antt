@@ -5,8 +5,9 @@ use native.Mathlib.Omega.{arith}
 use mathlib.Core.List.{List, [], _∷_, _++_}
 use lib.ListN.{length, getD}
 use lib.Seq.{getD-append-add}
-use Rattle.cells.specs.Part.{cell, Holds}
+use Rattle.cells.specs.Part.{cell}
 use Rattle.cells.proofs.Parts.{run-getD, run-ext}
+use Rattle.cells.specs.Placed.{Holds}
 
 pub holds-none : (w : List ℕ) (a : ℕ) → Holds w a []
 holds-none w a = record { is = refl }

@@ -4,16 +4,16 @@ use mathlib.Core.Bool.{Bool, true, false}
 use Prim.Native.Nat.{ℕ}
 use mathlib.Core.List.{List, [], _∷_}
 use lib.ListN.{length}
-use Rattle.cells.specs.Part.{if, Under}
+use Rattle.cells.specs.Part.{if}
 use Rattle.layout.specs.Layout.{preservedAt}
 use Rattle.rules.specs.Types.{Intersection, Bottom, State, Out, ok, no, Run, bind, _>>=_, store}
 use Rattle.rules.specs.Members.{merge-attrset-intersection, remove-redundant-negations, has-type-contradiction, factor-shared-from-intersection}
-use Rattle.rules.specs.Run.{flattened, concreteOf, settle, normalized}
-use Rattle.rules.specs.Run as runs
-use Rattle.rules.specs.Sound.{Sound}
+use Rattle.rules.specs.Canonicalizer.{flattened, concreteOf, settle, normalized}
+use Rattle.rules.specs.Canonicalizer as runs
+use Rattle.laws.specs.Sound.{Sound}
 use Rattle.rules.specs.declared.Polarity.{Polarity}
 use Rattle.rules.specs.declared.Polarity.the-variants.{Positive, Negative}
-use Rattle.rules.proofs.Keeping.{Keeps, refused-not, gave, later-under, keeps-flattened, keeps-merge, keeps-factor}
+use Rattle.laws.proofs.Keeping.{Keeps, refused-not, gave, later-under, keeps-flattened, keeps-merge, keeps-factor}
 use Rattle.lang_ty.specs.declared.arena.Pass.{Pass}
 use Rattle.lang_ty.specs.declared.arena.Given.{Given}
 use Rattle.lang_ty.specs.declared.arena.Found.{Found}
@@ -30,6 +30,7 @@ use Rattle.composites.specs.declared.lists.Settled.the-variants.{Refused
 use Rattle.composites.specs.Places.{HeldFlow, Visited, FirstIs, Normalizes}
 use Rattle.composites.specs.Lists.{Soundly, Leads, Flattens, AsSettled, SettlesListed, FirstMember, SettlesUnion, mergedEnd, SettlesMerged}
 use Rattle.composites.proofs.Settled.{bind-both, bind-of, settles-of, goes-on, stops, taken-nodes, stores-bottom}
+use Rattle.cells.specs.Placed.{Under}
 
 -- steps that keep the nodes stored before them keep what holds of all outcomes
 module _ (o : Out (List ℕ)) (f : List ℕ → Run (List ℕ)) (k : (xs : List ℕ) → Keeps (f xs)) where

@@ -9,15 +9,15 @@ use mathlib.Core.List.{List, [], _∷_}
 use lib.ListN.{length}
 use lib.Dec.{ltb}
 use borrow.Author.Tests.{lt-ltb, le-ltb}
-use Rattle.cells.specs.Part.{if, cell, part, Under}
+use Rattle.cells.specs.Part.{if, cell, part}
 use Rattle.cells.proofs.Holding.{holds-head}
 use Rattle.layout.specs.Layout.{preservedAt}
 use Rattle.rules.specs.Plain.{empty}
 use Rattle.rules.specs.Ceilings.{mostMembers}
 use Rattle.rules.specs.Types.{Node, Union, Intersection, Bottom, Top, State, Out, ok, no, Run, bind, _>>=_, give, refuse, store, limit}
 use Rattle.rules.specs.Members.{flatten-composite, remove-tautological-pairs, absorb-subsumed-union-members}
-use Rattle.rules.specs.Run.{flattened, concreteOf, settle, topIfEmptied, unionNormalized, firstOf}
-use Rattle.rules.specs.Run as runs
+use Rattle.rules.specs.Canonicalizer.{flattened, concreteOf, settle, topIfEmptied, unionNormalized, firstMember}
+use Rattle.rules.specs.Canonicalizer as runs
 use Rattle.rules.specs.declared.Polarity.{Polarity}
 use Rattle.rules.specs.declared.Polarity.the-variants.{Positive, Negative}
 use Rattle.lang_ty.specs.declared.arena.Pass.{Pass}
@@ -38,6 +38,7 @@ use Rattle.composites.specs.declared.lists.Settled.{Settled}
 use Rattle.composites.specs.declared.lists.Settled.the-variants.{Node as NodeS, Empty as EmptyS, Refused as RefusedS}
 use Rattle.composites.specs.Places.{GivenTo, Held, HeldFlow, FirstIs, Settles, unionEnd, UnionOf}
 use Rattle.composites.specs.Lists.{Flattens, WithoutFillers, unionMembers, TopIfEmptied, SettlesList, AsSettled, SettlesListed, FirstOrBottom, OrFirst, FirstMember, SettlesUnion}
+use Rattle.cells.specs.Placed.{Under}
 
 -- two steps behind another
 pub bind-both : {A B C : Type 0} (o : Out A) (f : A → Run B) (g : B → Run C) → bind o (λ a. f a >>= g) ≡ bind (bind o f) g
@@ -289,14 +290,14 @@ module _ {w : List ℕ} {l : Listed} {cancelled : Bool} {y : Found} where
 
 -- the ways of `first_or_bottom`
 first-node : {st : State} {w : List ℕ} {q : Pass} {y : Found} {x : ℕ} (ys : List ℕ) → y ≡ At x → Stands st w q → Under (length (st .nodes)) ys → FirstIs ys y
-    → Stores (firstOf ys st) w (NodeG x q)
+    → Stores (firstMember ys st) w (NodeG x q)
 first-node [] e on under first = let z : _≡_ {A = ℕ} 0 1 = cc in absurd (omega arith)
 first-node {st} {x = x} (z ∷ ys) e on under first =
     let same : z ≡ x = cc in
     record { is = record { after = st; is = ap (λ (y : ℕ). ok y st) same; stands = on; below = subst (λ (y : ℕ). y < length (st .nodes)) same (under .0) } }
 
 first-bottom : {st : State} {w w′ : List ℕ} {q : Pass} {y : Found} {g : Given} (ys : List ℕ) → y ≡ Nowhere → Stored (9 ∷ []) 0 w q w′ g → Stands st w q → FirstIs ys y
-    → Stores (firstOf ys st) w′ g
+    → Stores (firstMember ys st) w′ g
 first-bottom [] e h on first = stores-bottom h on
 first-bottom (z ∷ ys) e h on first = let z : _≡_ {A = ℕ} 0 1 = cc in absurd (omega arith)
 
@@ -312,7 +313,7 @@ or-node {w} e =
     record {
       is = λ f a.
           let b = subst (λ (r : Settled). Settles f w r) e a .is in
-          record { is = record { after = b .after; is = b .is firstOf; stands = b .stands; below = b .below } }
+          record { is = record { after = b .after; is = b .is firstMember; stands = b .stands; below = b .below } }
     }
 
 pub or-empty : {w w′ : List ℕ} {z : Settled} {y : Found} {q : Pass} {g : Given} → z ≡ EmptyS y q → FirstOrBottom w y q w′ g → OrFirst w z w′ g
@@ -320,11 +321,11 @@ or-empty {w} e h =
     record {
       is = λ f a.
           let b = subst (λ (r : Settled). Settles f w r) e a .is in
-          stores-of (b .is firstOf) (h .is (b .list) (b .stands) (b .below) (b .first))
+          stores-of (b .is firstMember) (h .is (b .list) (b .stands) (b .below) (b .first))
     }
 
 pub or-refused : {w : List ℕ} {z : Settled} {k : ℕ} → z ≡ RefusedS k → OrFirst w z w (RefusedG k)
-or-refused {w} e = record { is = λ f a. record { is = subst (λ (r : Settled). Settles f w r) e a .is firstOf } }
+or-refused {w} e = record { is = λ f a. record { is = subst (λ (r : Settled). Settles f w r) e a .is firstMember } }
 
 -- the ways of `first_of`
 first-is-none : {m : Members} (xs : List ℕ) → Few m xs → m .count ≡ 0 → FirstIs xs Nowhere

@@ -8,11 +8,11 @@ use lib.ListN.{length}
 use Rattle.cells.specs.Part.{if}
 use Rattle.rules.specs.Types.{Intersection, State, Out, ok, no, Run, bind, _>>=_}
 use Rattle.rules.specs.Members.{remove-tautological-pairs, remove-redundant-negations, has-type-contradiction, simplify-union-neg-intersection, factor-shared-from-intersection}
-use Rattle.rules.specs.Run.{flattened, concreteOf, settle, topIfEmptied, interNormalized, interRest, firstOf}
-use Rattle.rules.specs.Run as runs
+use Rattle.rules.specs.Canonicalizer.{flattened, concreteOf, settle, topIfEmptied, interNormalized, interRest, firstMember}
+use Rattle.rules.specs.Canonicalizer as runs
 use Rattle.rules.specs.declared.Polarity.{Polarity}
 use Rattle.rules.specs.declared.Polarity.the-variants.{Positive, Negative}
-use Rattle.rules.proofs.Keeping.{refused-not, gave, keeps-flattened, keeps-concrete, keeps-simplify, keeps-factor, keeps-interNormalized}
+use Rattle.laws.proofs.Keeping.{refused-not, gave, keeps-flattened, keeps-concrete, keeps-simplify, keeps-factor, keeps-interNormalized}
 use Rattle.lang_ty.specs.declared.arena.Pass.{Pass}
 use Rattle.lang_ty.specs.declared.arena.Given.{Given}
 use Rattle.lang_ty.specs.declared.arena.Given.the-variants.{Node as NodeG, Refused as RefusedG}
@@ -101,8 +101,8 @@ inter-settled {c} {cancelled = cancelled} i f d e =
           let o3 = bind o2 factor-shared-from-intersection in
           let known = leads-step o2 factor-shared-from-intersection keeps-factor (leads-step o simple (keeps-simplify (c .functor)) leads) in
           stores-of
-          (bind-both o simple (λ xs. factor-shared-from-intersection xs >>= settle cancelled (firstOf ys) Intersection)
-          ∙ bind-both o2 factor-shared-from-intersection (settle cancelled (firstOf ys) Intersection))
+          (bind-both o simple (λ xs. factor-shared-from-intersection xs >>= settle cancelled (firstMember ys) Intersection)
+          ∙ bind-both o2 factor-shared-from-intersection (settle cancelled (firstMember ys) Intersection))
           (e .is (λ rest. bind o3 (settle cancelled (rest ys) Intersection)) (d .is o3 ys (f .is o2 (i .is o a)) known))
     }
 

@@ -4,12 +4,13 @@ use mathlib.Core.Bool.{Bool, false}
 use Prim.Native.Nat.{ℕ, _<_}
 use mathlib.Core.List.{List}
 use lib.ListN.{length}
-use Rattle.cells.specs.Part.{if, cell, Under}
+use Rattle.cells.specs.Part.{if, cell}
 use Rattle.rules.specs.Types.{Node, Intersection, Bottom, State, Out, ok, Run, bind, _>>=_, ask, store}
-use Rattle.rules.specs.Members.{remove-tautological-pairs, absorb-subsumed-union-members, remove-redundant-negations, has-type-contradiction, simplify-union-neg-intersection, factor-shared-from-intersection}
-use Rattle.rules.specs.Run.{flattened, concreteOf, settle, topIfEmptied, interNormalized, interRest, firstOf}
-use Rattle.rules.specs.Run as runs
-use Rattle.rules.specs.Sound.{Sound}
+use Rattle.rules.specs.Members.{remove-tautological-pairs, absorb-subsumed-union-members, remove-redundant-negations, has-type-contradiction}
+use Rattle.rules.specs.Members.{simplify-union-neg-intersection, factor-shared-from-intersection}
+use Rattle.rules.specs.Canonicalizer.{flattened, concreteOf, settle, topIfEmptied, interNormalized, interRest, firstMember}
+use Rattle.rules.specs.Canonicalizer as runs
+use Rattle.laws.specs.Sound.{Sound}
 use Rattle.rules.specs.declared.Polarity.{Polarity}
 use Rattle.rules.specs.declared.Polarity.the-variants.{Positive, Negative}
 use Rattle.lang_ty.specs.declared.arena.Pass.{Pass}
@@ -27,6 +28,7 @@ use Rattle.composites.specs.declared.binary.Try.{Try}
 use Rattle.composites.specs.declared.binary.Try.the-variants.{First, Again}
 use Rattle.composites.specs.declared.binary.Tried.{Tried}
 use Rattle.composites.specs.Places.{GivenTo, Visited, FirstIs, Settles, Tries, unionEnd}
+use Rattle.cells.specs.Placed.{Under}
 
 -- whatever the rules gave, the state by then is sound
 abbrev pub Soundly : Out (List ℕ) → Type 0
@@ -76,11 +78,11 @@ pub record SettlesListed (w : List ℕ) (l : Listed) (cancelled : Bool) (first :
 
 -- the first of ys, or Bottom where there is none
 pub record FirstOrBottom (w : List ℕ) (y : Found) (q : Pass) (w′ : List ℕ) (r : Given) : Type 0 where
-  pub is : {st : State} (ys : List ℕ) → Stands st w q → Under (length (st .nodes)) ys → FirstIs ys y → Stores (firstOf ys st) w′ r
+  pub is : {st : State} (ys : List ℕ) → Stands st w q → Under (length (st .nodes)) ys → FirstIs ys y → Stores (firstMember ys st) w′ r
 
 -- what is to be done where nothing is left, is to take the first member before filtering
 pub record OrFirst (w : List ℕ) (z : Settled) (w′ : List ℕ) (r : Given) : Type 0 where
-  pub is : (f : (List ℕ → Run ℕ) → Out ℕ) → Settles f w z → Stores (f firstOf) w′ r
+  pub is : (f : (List ℕ → Run ℕ) → Out ℕ) → Settles f w z → Stores (f firstMember) w′ r
 
 -- the first member, where there is one
 pub record FirstMember (m : Members) (r : Found) : Type 0 where
@@ -115,14 +117,15 @@ abbrev pub interEnd : ℕ → Bool → List ℕ → List ℕ → Run ℕ
 interEnd functor cancelled ys xs = do
   simple ← simplify-union-neg-intersection functor xs
   zs ← factor-shared-from-intersection simple
-  settle cancelled (firstOf ys) Intersection zs
+  settle cancelled (firstMember ys) Intersection zs
 
 -- l is what the normalization gave
 pub record SettlesInter (c : Canon) (w : List ℕ) (l : Listed) (cancelled : Bool) (first : Found) (w′ : List ℕ) (r : Given) : Type 0 where
   pub is : (o : Out (List ℕ)) (ys : List ℕ) → Answers o w l → Leads o ys first → Stores (bind o (interEnd (c .functor) cancelled ys)) w′ r
 
 -- Ty::Inter, once its members do not contradict each other
-pub record RestsInter (c : Canon) (w work : List ℕ) (h : ℕ) (q : Pass) (m : Members) (first : Found) (pol : Polarity) (w′ work′ : List ℕ) (r : Given) : Type 0 where
+pub record RestsInter (c : Canon) (w work : List ℕ) (h : ℕ) (q : Pass) (m : Members) (first : Found) (pol : Polarity) (w′ work′ : List ℕ)
+    (r : Given) : Type 0 where
   pub kept : (k : ℕ) → k < h → cell work′ k ≡ cell work k
   pub is : (p : runs.Pass) {st : State} {xs : List ℕ} (ys : List ℕ) → p .functor ≡ c .functor → Sound st → Stands st w q → Taken m xs (q .nodes) → Roomy work h
       → Under (length (st .nodes)) ys → FirstIs ys first → Stores (interRest p pol ys xs st) w′ r

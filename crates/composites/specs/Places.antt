@@ -3,14 +3,14 @@ use mathlib.Core.Path.{_≡_}
 use Prim.Native.Nat.{ℕ, _<_}
 use mathlib.Core.List.{List, [], _∷_}
 use lib.ListN.{length}
-use Rattle.cells.specs.Part.{if, cell, Holds, Under}
+use Rattle.cells.specs.Part.{if, cell}
 use Rattle.layout.specs.Layout.{preservedAt}
 use Rattle.rules.specs.Types.{State, Out, ok, no, Run, bind, _>>=_, ask, Union, unionKind, intersectionKind}
 use Rattle.rules.specs.Types as rules
 use Rattle.rules.specs.Members.{has-type-contradiction, simplify-union-neg-intersection}
-use Rattle.rules.specs.Run.{flattened, concreteOf, unionNormalized, settle, topIfEmptied, compositeKind, normalized, interRest, firstOf}
-use Rattle.rules.specs.Run as runs
-use Rattle.rules.specs.Sound.{Sound}
+use Rattle.rules.specs.Canonicalizer.{flattened, concreteOf, unionNormalized, settle, topIfEmptied, compositeKind, normalized, interRest, firstMember}
+use Rattle.rules.specs.Canonicalizer as runs
+use Rattle.laws.specs.Sound.{Sound}
 use Rattle.rules.specs.declared.Polarity.{Polarity}
 use Rattle.lang_ty.specs.declared.arena.Pass.{Pass}
 use Rattle.lang_ty.specs.declared.arena.Given.{Given}
@@ -28,6 +28,7 @@ use Rattle.composites.specs.declared.binary.Try.{Try}
 use Rattle.composites.specs.declared.binary.Try.the-variants.{First, Again}
 use Rattle.composites.specs.declared.binary.Tried.{Tried}
 use Rattle.composites.specs.declared.binary.Tried.the-variants.{Node as NodeT, Contradiction as ContradictionT, Refused as RefusedT}
+use Rattle.cells.specs.Placed.{Holds, Under}
 
 -- the pass's set, its entry count and the number of `__functor` are those of the code
 pub record GivenTo (p : runs.Pass) (table : List ℕ) (c : Canon) : Type 0 where
@@ -127,11 +128,13 @@ pub record Normalizes (table : List ℕ) (c : Canon) (w work : List ℕ) (h n : 
       → Settles (λ rest. bind o (λ xs. boundsEnd p pol xs rest)) w′ r
 
 pub record UnionOf (table : List ℕ) (c : Canon) (w work : List ℕ) (h : ℕ) (q : Pass) (pol : Polarity) (w′ : List ℕ) (r : Given) : Type 0 where
-  pub is : {p : runs.Pass} (o : Out (List ℕ)) → GivenTo p table c → Visited o w work h 2 (On q) → Answers (bind o (λ xs. unionEnd p pol xs firstOf)) w′ r
+  pub is : {p : runs.Pass} (o : Out (List ℕ)) → GivenTo p table c → Visited o w work h 2 (On q) → Answers (bind o (λ xs. unionEnd p pol xs firstMember)) w′ r
 
-pub record TriesInter (table : List ℕ) (c : Canon) (w work : List ℕ) (h : ℕ) (f : Flow) (t : Try) (pol : Polarity) (w′ work′ : List ℕ) (r : Tried) : Type 0 where
+pub record TriesInter (table : List ℕ) (c : Canon) (w work : List ℕ) (h : ℕ) (f : Flow) (t : Try) (pol : Polarity) (w′ work′ : List ℕ)
+    (r : Tried) : Type 0 where
   pub kept : (k : ℕ) → k < h → cell work′ k ≡ cell work k
   pub once : {p : runs.Pass} (o : Out (List ℕ)) → GivenTo p table c → Visited o w work h 2 f → Roomy work h → t ≡ First
       → Tries (λ rest. bind o (λ xs. interFirst p pol xs rest)) w′ r
-  pub twice : {p : runs.Pass} (o : Out (List ℕ)) (ys : List ℕ) (y : Found) → GivenTo p table c → Visited o w work h 2 f → Roomy work h → t ≡ Again y → FirstIs ys y
+  pub twice : {p : runs.Pass} (o : Out (List ℕ)) (ys : List ℕ) (y : Found) → GivenTo p table c → Visited o w work h 2 f → Roomy work h → t ≡ Again y
+      → FirstIs ys y
       → ((xs : List ℕ) (st : State) → o ≡ ok xs st → Under (length (st .nodes)) ys) → Tries (λ rest. bind o (λ xs. interSecond p pol ys xs rest)) w′ r

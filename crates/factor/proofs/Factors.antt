@@ -10,7 +10,7 @@ use lib.ListN.{length, getD, take, drop, set, replicate, length-set, length-appe
 use lib.Seq.{getD-set-other, take-all, take-suc, drop-cons, length-take-le}
 use lib.Dec.{eqb, ltb}
 use borrow.Author.Tests.{eq-eqb, ne-eqb, le-ltb, lt-ltb, not-true, not-false}
-use Rattle.cells.specs.Part.{run, cell, part, if, Under}
+use Rattle.cells.specs.Part.{run, cell, part, if}
 use Rattle.cells.proofs.Parts.{run-length, part-set-snoc}
 use Rattle.cells.proofs.Holding.{holds-none, holds-at, holds-head}
 use Rattle.rules.specs.Ceilings.{mostMembers}
@@ -18,7 +18,7 @@ use Rattle.rules.specs.Plain.{any, all, filter, contains}
 use Rattle.rules.specs.Types.{Node, Union, Intersection, State, Out, ok, no, Run, bind, give, store, members, is}
 use Rattle.rules.specs.Order.{order, isGreater, insert, sortInto, sort}
 use Rattle.rules.specs.Members.{membersAt, without, sole, remainders, factored, factorUnions, factor-shared-from-intersection}
-use Rattle.rules.proofs.Storing.{store-keeps, store-many}
+use Rattle.laws.proofs.Storing.{store-keeps, store-many}
 use Rattle.lang_ty.specs.declared.arena.Pass.{Pass}
 use Rattle.lang_ty.specs.declared.arc_ty.Order.{Order}
 use Rattle.lang_ty.specs.declared.arc_ty.Order.the-variants.{Less, Equal, Greater}
@@ -35,10 +35,11 @@ use Rattle.members.specs.declared.lists.Grown.the-variants.{On as OnG, Refused 
 use Rattle.members.specs.Lists.{Few, Lists, Taken, Makes, Tests, Gives, AnswersFlow, Answers, Runs, Asks, Refuses, Contains, Gathered, KeepsIf, ofKind, sift, Soles, Adds, AnswersGrown, Grows, Joined, AsListed, firstOf, Pairs}
 use Rattle.members.specs.Flattens.{Listing}
 use Rattle.factor.specs.Factors.{hasMember, inOthers, inAllOthers, notAmong, Picks, Remains, AnswersMore, Leaves, behind, Placed, PutIn, Inserts, Marked, SolesAny, beside, FactorsParts, afterRests, FactorsRests, FactorsUnions, FactorsOne}
-use Rattle.rules.proofs.Filtering.{kept, filter-take, filter-length, filter-under, under-at, under-both, under-most, any-here, any-more, any-done, all-here, all-more, all-done}
+use Rattle.laws.proofs.Filtering.{kept, filter-take, filter-length, filter-under, under-at, under-both, under-most, any-here, any-more, any-done, all-here, all-more, all-done}
 use Rattle.members.proofs.Gathered.{listOf, few-lists, few-at, few-below, gathered-none, gathered-few, gathered-list, kept-only, taken-list, Tried, wraps-union, wraps-intersection, refuses}
 use Rattle.members.proofs.Flattened.{member-nodes, by-length}
 use Rattle.members.proofs.Negated.{arena-pass}
+use Rattle.cells.specs.Placed.{Under}
 
 -- where there are more nodes
 taken-most : {m : Members} {xs : List ℕ} {j k : ℕ} → j ≤ k → Taken m xs j → Taken m xs k

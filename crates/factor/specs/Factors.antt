@@ -5,7 +5,6 @@ use Prim.Native.Nat.{ℕ, suc, _+_, _≤_, _<_}
 use mathlib.Core.List.{List, [], _∷_, _++_}
 use lib.ListN.{length, take, drop}
 use lib.Dec.{ltb}
-use Rattle.cells.specs.Part.{Under}
 use Rattle.rules.specs.Ceilings.{mostMembers}
 use Rattle.rules.specs.Plain.{all, filter, contains}
 use Rattle.rules.specs.Types.{Node, Union, Intersection, State, Out, no, Run, _>>=_, bind, ask}
@@ -21,6 +20,7 @@ use Rattle.members.specs.declared.lists.AtMostOne.{AtMostOne}
 use Rattle.members.specs.declared.lists.Grown.{Grown}
 use Rattle.members.specs.Lists.{Taken, Gives, Answers, Gathered, Wraps, AnswersPart, AnswersGrown, firstOf}
 use Rattle.members.specs.Flattens.{Listing}
+use Rattle.cells.specs.Placed.{Under}
 
 -- x is a member of node u
 abbrev pub hasMember : ℕ → List Node → ℕ → Bool
@@ -114,4 +114,5 @@ pub record FactorsUnions (w : List ℕ) (q : Pass) (others unions : Members) (w�
 
 -- a sole union
 pub record FactorsOne (w : List ℕ) (q : Pass) (others : Members) (u : ℕ) (w′ : List ℕ) (r : Listed) : Type 0 where
-  pub is : {st : State} {ys : List ℕ} → Stands st w q → Taken others ys (q .nodes) → length ys < mostMembers → u < q .nodes → Answers (factorUnions ys (u ∷ []) st) w′ r
+  pub is : {st : State} {ys : List ℕ} → Stands st w q → Taken others ys (q .nodes) → length ys < mostMembers → u < q .nodes
+      → Answers (factorUnions ys (u ∷ []) st) w′ r

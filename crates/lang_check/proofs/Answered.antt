@@ -4,16 +4,15 @@ use Prim.Native.Nat.{ℕ, suc}
 use native.Mathlib.Omega.{arith}
 use mathlib.Core.List.{List, [], _∷_}
 use lib.ListN.{length}
-use Rattle.cells.specs.Part.{Under}
 use Rattle.rules.specs.Types.{State, Out, ok}
 use Rattle.rules.specs.Members.{each}
-use Rattle.rules.specs.Run.{Reader, Visit}
-use Rattle.rules.specs.Run as runs
-use Rattle.rules.specs.Sound.{Tabled}
+use Rattle.rules.specs.Canonicalizer.{Reader, Visit}
+use Rattle.rules.specs.Canonicalizer as runs
+use Rattle.laws.specs.Sound.{Tabled}
 use Rattle.rules.specs.declared.Polarity.{Polarity}
-use Rattle.rules.proofs.Keeping.{gave, refused-not}
-use Rattle.rules.proofs.Moving.{Moved, Firm, Goes, Goer, Went, Any, any-stays, Answers as Answered, goes-each, goes-bind, goes-give}
-use Rattle.rules.proofs.Rooting.{Below}
+use Rattle.laws.proofs.Keeping.{gave, refused-not}
+use Rattle.laws.proofs.Moving.{Moved, Firm, Goes, Goer, Went, Any, any-stays, Answers as Answered, goes-each, goes-bind, goes-give}
+use Rattle.laws.proofs.Rooting.{Below}
 use Rattle.lang_ty.specs.declared.arena.Given.{Given}
 use Rattle.lang_ty.specs.declared.arena.Given.the-variants.{Node as NodeG, Refused}
 use Rattle.lang_ty.specs.Nodes.{Answers as Stores}
@@ -25,6 +24,7 @@ use Rattle.merge.specs.Merges.{Roomy}
 use Rattle.composites.specs.Places.{GivenTo, Visited}
 use Rattle.lang_check.specs.Cycle.{Keyed, Poised, KeptBelow, Answers, AnswersHeld, visited}
 use Rattle.lang_check.proofs.Poised.{poised-moved, kept-both}
+use Rattle.cells.specs.Placed.{Under}
 
 module _ (p : runs.Pass) (t : Reader) (b : Tabled p t) (v : Visit) (mv : Goer p t Any v) where
   -- as many answers, all nodes

@@ -6,27 +6,28 @@ use native.Mathlib.Numerals.{add-one}
 use mathlib.Core.List.{List, [], _∷_, _++_, append-nil}
 use lib.ListN.{length, getD, set, drop, length-set, drop-of-length-le}
 use lib.Seq.{drop-cons, getD-set-other}
-use Rattle.cells.specs.Part.{cell, part, Under}
+use Rattle.cells.specs.Part.{cell, part}
 use Rattle.cells.specs.Sum.{Sum}
 use Rattle.cells.proofs.Parts.{run-ext, run-length, part-set-snoc}
 use Rattle.cells.proofs.Holding.{holds-at}
 use Rattle.rules.specs.Types.{State, Out, ok, no, bind, give}
 use Rattle.rules.specs.Members.{each}
-use Rattle.rules.specs.Run.{Reader, Visit, visit}
-use Rattle.rules.specs.Run as runs
+use Rattle.rules.specs.Canonicalizer.{Reader, Visit, visit}
+use Rattle.rules.specs.Canonicalizer as runs
 use Rattle.rules.specs.declared.Polarity.{Polarity}
-use Rattle.rules.proofs.Moving.{Moved, moved-none, moved-both}
+use Rattle.laws.proofs.Moving.{Moved, moved-none, moved-both}
 use Rattle.lang_ty.specs.declared.arena.Pass.{Pass}
 use Rattle.lang_ty.specs.declared.arena.Given.{Given}
 use Rattle.lang_ty.specs.declared.arena.Given.the-variants.{Node, Refused}
 use Rattle.lang_ty.specs.Nodes.{Stands}
 use Rattle.members.specs.declared.lists.Flow.the-variants.{On, Refused as RefusedF}
-use Rattle.rules.proofs.Filtering.{under-at}
+use Rattle.laws.proofs.Filtering.{under-at}
 use Rattle.members.proofs.Negated.{bind-none, bind-more}
 use Rattle.storage.specs.declared.given.Canon.{Canon}
 use Rattle.storage.specs.Helds.{HeldList}
 use Rattle.lang_check.specs.Cycle.{Keyed, Poised, KeptBelow, Gives, Answers, visited, Visits, Each, Side}
 use Rattle.lang_check.proofs.Poised.{poised-firm, poised-mover, poised-entry, poised-moved, poised-place, keyed-cells, kept-none}
+use Rattle.cells.specs.Placed.{Under}
 
 -- the polarity in which the i-th id is visited
 abbrev pub sideOf : ℕ → Polarity → Polarity → Polarity

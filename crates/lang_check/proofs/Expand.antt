@@ -8,20 +8,20 @@ use lib.ListN.{length, set, length-append, length-set}
 use lib.Seq.{getD-set-same, getD-set-other}
 use lib.Dec.{eqb, ltb}
 use borrow.Author.Tests.{eqb-true, eq-eqb, ne-eqb}
-use Rattle.cells.specs.Part.{if, cell, Under}
+use Rattle.cells.specs.Part.{if, cell}
 use Rattle.layout.specs.Layout.{bitsAt, countedNodes, heldAt, seenAt}
 use Rattle.rules.specs.Plain.{empty, contains, addNew, both}
 use Rattle.rules.specs.Table.{Entry, var, prim, tyvar, list, fn, set as setEntry, neg, named, inter, union, frozen, kids}
 use Rattle.rules.specs.Types.{State, Out, ok, no, Run, bind, _>>=_, give, flip}
 use Rattle.rules.specs.Members.{addAll, each}
-use Rattle.rules.specs.Run.{Reader, Visit, variable, addBit, note, concreteOf, flattened, compositeKind, deduplicated, expand-bounds, isVariable, isAtom, lowers, uppers, beginList, began, begin, expand-bounds-empty-fallback, expansion, boundsOf, variableRule, namedBound, canonicalize-inner, visit}
-use Rattle.rules.specs.Run as runs
-use Rattle.rules.specs.Sound.{Tabled}
+use Rattle.rules.specs.Canonicalizer.{Reader, Visit, variable, addBit, note, concreteOf, flattened, compositeKind, deduplicated, expand-bounds, isVariable, isAtom, lowers, uppers, beginList, began, begin, expand-bounds-empty-fallback, expansion, boundsOf, variableRule, namedBound, canonicalize-inner, visit}
+use Rattle.rules.specs.Canonicalizer as runs
+use Rattle.laws.specs.Sound.{Tabled}
 use Rattle.rules.specs.declared.Polarity.{Polarity}
 use Rattle.rules.specs.declared.Polarity.the-variants.{Positive, Negative}
-use Rattle.rules.proofs.Keeping.{Later, later-none, parted, gave, refused-not, Keeps, keeps-give, keeps-bind, keeps-variable, keeps-concrete, keeps-flattened, keeps-normalized, keeps-preserving, filter-short}
-use Rattle.rules.proofs.Rooting.{under-front, under-back}
-use Rattle.rules.proofs.Moving.{Moved, moved-later, moved-both, Firm, Goer, Any, any-stays, begin-known, distinct-known, goes-note, goes-each, goes-expansion}
+use Rattle.laws.proofs.Keeping.{Later, later-none, parted, gave, refused-not, Keeps, keeps-give, keeps-bind, keeps-variable, keeps-concrete, keeps-flattened, keeps-normalized, keeps-preserving, filter-short}
+use Rattle.laws.proofs.Rooting.{under-front, under-back}
+use Rattle.laws.proofs.Moving.{Moved, moved-later, moved-both, Firm, Goer, Any, any-stays, begin-known, distinct-known, goes-note, goes-each, goes-expansion}
 use Rattle.lang_ty.specs.declared.arena.Pass.{Pass}
 use Rattle.lang_ty.specs.declared.arena.Given.{Given}
 use Rattle.lang_ty.specs.declared.arena.Given.the-variants.{Node as NodeG, Refused}
@@ -45,6 +45,7 @@ use Rattle.composites.specs.Places.{Settles, boundsEnd, Normalizes}
 use Rattle.lang_check.specs.Cycle.{Keyed, Poised, KeptBelow, Answers, AnswersHeld, AnswersGathered, visited, Visits, Each, Inner, Gathered, Expands, FallsBackTo, IsCut}
 use Rattle.lang_check.proofs.Answered.{goes-visited, knows-given, poised-roomy, visited-held}
 use Rattle.lang_check.proofs.Poised.{poised-firm, poised-mover, poised-entry, poised-under, poised-moved, poised-place, poised-slice, keyed-cells, keyed-later, kept-both, answers-out, answers-stored}
+use Rattle.cells.specs.Placed.{Under}
 
 -- a visit of all in one polarity
 pub visited-each : (v : Visit) (pol : Polarity) (bs : List ℕ) (st : State) → visited v pol pol bs st ≡ each (λ (b : ℕ). v b pol) bs st

@@ -8,11 +8,11 @@ use lib.ListN.{length}
 use Rattle.cells.specs.Part.{if}
 use Rattle.rules.specs.Types.{Node, State, Out, ok, no, Run, bind, _>>=_, give, ask, store, Bottom, intersectionKind}
 use Rattle.rules.specs.Members.{each, has-type-contradiction, simplify-union-neg-intersection}
-use Rattle.rules.specs.Run.{Reader, Visit, isVariable, flattened, concreteOf, interRest, interRule, interRetry, turned, visit}
-use Rattle.rules.specs.Run as runs
+use Rattle.rules.specs.Canonicalizer.{Reader, Visit, isVariable, flattened, concreteOf, interRest, interRule, interRetry, turned, visit}
+use Rattle.rules.specs.Canonicalizer as runs
 use Rattle.rules.specs.declared.Polarity.{Polarity}
-use Rattle.rules.proofs.Keeping.{Keeps, parted, keeps-give, keeps-ask, keeps-bind, keeps-if, keeps-store, keeps-simplify, keeps-concrete, keeps-flattened, keeps-interRest}
-use Rattle.rules.proofs.Moving.{moved-under}
+use Rattle.laws.proofs.Keeping.{Keeps, parted, keeps-give, keeps-ask, keeps-bind, keeps-if, keeps-store, keeps-simplify, keeps-concrete, keeps-flattened, keeps-interRest}
+use Rattle.laws.proofs.Moving.{moved-under}
 use Rattle.lang_ty.specs.declared.arena.Pass.{Pass}
 use Rattle.lang_ty.specs.declared.arena.Given.{Given}
 use Rattle.lang_ty.specs.declared.arena.Given.the-variants.{Node as NodeG, Refused}

@@ -6,15 +6,15 @@ use mathlib.Core.List.{List, [], _∷_}
 use lib.ListN.{length}
 use denote.Enum.Declared.{tagOf}
 use types.Run.{OneOf, miss}
-use Rattle.cells.specs.Part.{cell, Under}
+use Rattle.cells.specs.Part.{cell}
 use Rattle.cells.proofs.Holding.{holds-at}
 use Rattle.rules.specs.Table.{Entry, prim, tyvar, list, fn, set, neg, named, union, asSet}
 use Rattle.rules.specs.Types.{State, Out, no, Run, bind, store, ListOf, Lambda, Named, Bottom}
 use Rattle.rules.specs.Members.{negate-output-ty}
-use Rattle.rules.specs.Run as runs
-use Rattle.rules.specs.Sound.{OrderlySet}
+use Rattle.rules.specs.Canonicalizer as runs
+use Rattle.laws.specs.Sound.{OrderlySet}
 use Rattle.rules.specs.declared.Polarity.{Polarity}
-use Rattle.rules.proofs.Loading.{members-alike, sound-members}
+use Rattle.laws.proofs.Loading.{members-alike, sound-members}
 use Rattle.lang_ty.specs.declared.arena.Pass.{Pass}
 use Rattle.lang_ty.specs.declared.arena.Given.{Given}
 use Rattle.lang_ty.specs.declared.arena.Given.the-variants.{Node, Refused}
@@ -32,13 +32,14 @@ use Rattle.storage.proofs.entries.Entry.{the-type}
 use Rattle.members.specs.declared.lists.Flow.{Flow}
 use Rattle.members.specs.declared.lists.Flow.the-variants.{On, Refused as RefusedF}
 use Rattle.members.specs.Negations.{membersUpTo, Negatable, AnswersGiven, NegatesOutput}
-use Rattle.rules.proofs.Filtering.{under-at}
+use Rattle.laws.proofs.Filtering.{under-at}
 use Rattle.composites.specs.declared.binary.Tried.{Tried}
 use Rattle.composites.specs.declared.binary.Tried.the-variants.{Node as NodeT, Contradiction as ContradictionT, Refused as RefusedT}
 use Rattle.composites.specs.Places.{Held, Visited, UnionOf, Tries}
 use Rattle.lang_check.specs.Cycle.{made, Broad, StoredBy, Made, Retried}
 use Rattle.lang_check.specs.Making.{Single, MadeOfOne}
 use Rattle.storage.proofs.HeldIds.{read-as}
+use Rattle.cells.specs.Placed.{Under}
 
 -- a step that stores and leaves the working slice
 stored-by : {o : Out ℕ} {w : List ℕ} (work : List ℕ) (h : ℕ) {r : Given} → Stores o w r → StoredBy o w work work h r

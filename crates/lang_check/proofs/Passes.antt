@@ -20,14 +20,14 @@ use Rattle.layout.specs.Layout.{bitsAt, heldAt, preservedAt, seenAt, marksAt, a
 use Rattle.rules.specs.Plain.{any}
 use Rattle.rules.specs.Ceilings.{mostOperations, mostEntries}
 use Rattle.rules.specs.Types.{State, ok, no}
-use Rattle.rules.specs.Run.{Reader, isBoth, fresh, pass, shown, afterFirst, afterSecond, withSet, canonicalize, visit}
-use Rattle.rules.specs.Run as runs
-use Rattle.rules.specs.Sound.{Tabled}
+use Rattle.rules.specs.Canonicalizer.{Reader, isBoth, fresh, pass, shown, afterFirst, afterSecond, withSet, canonicalize, visit}
+use Rattle.rules.specs.Canonicalizer as runs
+use Rattle.laws.specs.Sound.{Tabled}
 use Rattle.rules.specs.declared.Polarity.{Polarity}
-use Rattle.rules.proofs.Storing.{true-false, Rooted, rooted-none}
-use Rattle.rules.proofs.Keeping.{refused-not}
-use Rattle.rules.proofs.Loading.{load-fresh}
-use Rattle.rules.proofs.Moving.{Moved, visit-moves, steady-fresh}
+use Rattle.laws.proofs.Storing.{true-false, Rooted, rooted-none}
+use Rattle.laws.proofs.Keeping.{refused-not}
+use Rattle.laws.proofs.Loading.{load-fresh}
+use Rattle.laws.proofs.Moving.{Moved, visit-moves, steady-fresh}
 use Rattle.lang_ty.specs.declared.arena.Pass.{Pass}
 use Rattle.lang_ty.specs.declared.arena.Given.{Given}
 use Rattle.lang_ty.specs.declared.arena.Given.the-variants.{Node as NodeG, Refused}
@@ -195,9 +195,9 @@ second-node {y} {x} {q} {first} {ops} {sorted} d sum o =
               nodes = g .after .nodes;
               is =
                   ap (afterSecond (first .ops) (first .sorted)) (g .is)
-                  ∙ ap (λ (m : ℕ). shown 2 m (first .sorted || g .after .sorted) (g .after .bailed) (g .after .nodes) x) (sym e)
-                  ∙ ap (λ (b : Bool). shown 2 ops b (g .after .bailed) (g .after .nodes) x) (sym f)
-                  ∙ ap (λ (b : Bool). shown 2 ops sorted b (g .after .nodes) x) (g .stands .bailed);
+                  ∙ ap (λ (m : ℕ). shown (record { passes = 2; operations = m; sorted = first .sorted || g .after .sorted; bailed = g .after .bailed; nodes = g .after .nodes; root = x })) (sym e)
+                  ∙ ap (λ (b : Bool). shown (record { passes = 2; operations = ops; sorted = b; bailed = g .after .bailed; nodes = g .after .nodes; root = x })) (sym f)
+                  ∙ ap (λ (b : Bool). shown (record { passes = 2; operations = ops; sorted = sorted; bailed = b; nodes = g .after .nodes; root = x })) (g .stands .bailed);
               arena = g .stands .arena;
               below = g .below;
             };
@@ -277,10 +277,10 @@ module _ {table : List ℕ} {c : Canon} {w work : List ℕ} {id : ℕ} {pol : Po
                   nodes = st .nodes;
                   is =
                       canonicalize-is p t id pol ∙ ap (afterFirst p t id pol) (a .is)
-                      ∙ ap (λ (b : Bool). if b (λ _. afterSecond (st .ops) (st .sorted) (pass (withSet p st) t id pol)) (λ _. shown 1 (st .ops) (st .sorted) (st .bailed) (st .nodes) x)) (found-is kn tb lent lt ∙ z)
-                      ∙ ap (λ (n : ℕ). shown 1 n (st .sorted) (st .bailed) (st .nodes) x) (a .stands .ops)
-                      ∙ ap (λ (b : Bool). shown 1 (q .ops) b (st .bailed) (st .nodes) x) (a .stands .sorted)
-                      ∙ ap (λ (b : Bool). shown 1 (q .ops) (q .sorted) b (st .nodes) x) (a .stands .bailed);
+                      ∙ ap (λ (b : Bool). if b (λ _. afterSecond (st .ops) (st .sorted) (pass (withSet p st) t id pol)) (λ _. shown (record { passes = 1; operations = st .ops; sorted = st .sorted; bailed = st .bailed; nodes = st .nodes; root = x }))) (found-is kn tb lent lt ∙ z)
+                      ∙ ap (λ (n : ℕ). shown (record { passes = 1; operations = n; sorted = st .sorted; bailed = st .bailed; nodes = st .nodes; root = x })) (a .stands .ops)
+                      ∙ ap (λ (b : Bool). shown (record { passes = 1; operations = q .ops; sorted = b; bailed = st .bailed; nodes = st .nodes; root = x })) (a .stands .sorted)
+                      ∙ ap (λ (b : Bool). shown (record { passes = 1; operations = q .ops; sorted = q .sorted; bailed = b; nodes = st .nodes; root = x })) (a .stands .bailed);
                   arena = a .stands .arena;
                   below = m .1;
                 };
@@ -332,7 +332,7 @@ module _ {table : List ℕ} {c : Canon} {w work : List ℕ} {id : ℕ} {pol : Po
                 let most = pass-most kn tb lt pol x st (a .is) in
                 subst (λ (y : runs.Answer). RootIs y w2 r)
                 (sym (canonicalize-is p t id pol ∙ ap (afterFirst p t id pol) (a .is)
-                ∙ ap (λ (b : Bool). if b (λ _. afterSecond (st .ops) (st .sorted) o) (λ _. shown 1 (st .ops) (st .sorted) (st .bailed) (st .nodes) x)) (found-is kn tb lent lt ∙ z)
+                ∙ ap (λ (b : Bool). if b (λ _. afterSecond (st .ops) (st .sorted) o) (λ _. shown (record { passes = 1; operations = st .ops; sorted = st .sorted; bailed = st .bailed; nodes = st .nodes; root = x }))) (found-is kn tb lent lt ∙ z)
                 ∙ ap (λ (n : ℕ). afterSecond n (st .sorted) o) (a .stands .ops) ∙ ap (λ (b : Bool). afterSecond (q .ops) b o) (a .stands .sorted)))
                 (second .is o (pass-stores kn2 tb2 lt pol g2 b) (let n = a .stands .ops in omega arith) (pass-most kn2 tb2 lt pol));
             kept = λ un k. by-place un k (ltb k preservedAt) refl;

@@ -4,22 +4,23 @@ use Prim.Native.Nat.{ℕ, _+_, _≤_, _<_}
 use native.Mathlib.Omega.{arith}
 use mathlib.Core.List.{List}
 use lib.ListN.{length}
-use Rattle.cells.specs.Part.{cell, Under}
+use Rattle.cells.specs.Part.{cell}
 use Rattle.layout.specs.Layout.{countedNodes, heldAt, seenAt, bitsAt}
 use Rattle.rules.specs.Ceilings.{mostEntries}
 use Rattle.rules.specs.Types.{State, Out, ok}
-use Rattle.rules.specs.Run.{Reader, visit}
-use Rattle.rules.specs.Run as runs
-use Rattle.rules.specs.Sound.{load}
-use Rattle.rules.proofs.Storing.{Rooted}
-use Rattle.rules.proofs.Keeping.{Later, later-steady}
-use Rattle.rules.proofs.Moving.{Moved, Firm, Goer, Any, firm-any, mover-goes, visit-moves}
+use Rattle.rules.specs.Canonicalizer.{Reader, visit}
+use Rattle.rules.specs.Canonicalizer as runs
+use Rattle.laws.specs.Sound.{load}
+use Rattle.laws.proofs.Storing.{Rooted}
+use Rattle.laws.proofs.Keeping.{Later, later-steady}
+use Rattle.laws.proofs.Moving.{Moved, Firm, Goer, Any, firm-any, mover-goes, visit-moves}
 use Rattle.lang_ty.specs.declared.arena.Pass.{Pass}
 use Rattle.lang_ty.specs.declared.arena.Given.the-variants.{Node as NodeG, Refused}
 use Rattle.lang_ty.specs.declared.arena.Given.{Given}
 use Rattle.lang_ty.specs.Nodes.{Stands, Answers as Stores}
 use Rattle.storage.specs.declared.given.Canon.{Canon}
 use Rattle.lang_check.specs.Cycle.{Keyed, Poised, KeptBelow, Answers}
+use Rattle.cells.specs.Placed.{Under}
 
 -- the nodes of a state that the slices stand for have their children below them
 pub stands-rooted : {st : State} {w : List ℕ} {q : Pass} → Stands st w q → Rooted (st .nodes)

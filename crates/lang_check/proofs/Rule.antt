@@ -6,18 +6,18 @@ use mathlib.Core.List.{List, [], _∷_, _++_}
 use lib.ListN.{length}
 use denote.Enum.Declared.{tagOf}
 use types.Run.{OneOf, miss}
-use Rattle.cells.specs.Part.{cell, Under}
+use Rattle.cells.specs.Part.{cell}
 use Rattle.layout.specs.Layout.{heldAt}
-use Rattle.rules.specs.Plain.{Maybe, none, some, ascending}
+use Rattle.rules.specs.Plain.{ascending}
 use Rattle.rules.specs.Ceilings.{mostNames}
 use Rattle.rules.specs.Table.{Field, Attr, Entry, var, prim, tyvar, list, fn, set, neg, named, inter, union, frozen, fieldTypes, fieldKeys, dynIds, kids, asSet}
 use Rattle.rules.specs.Types.{State, Out, ok, no, Run, bind, _>>=_, give, flip, store, unionKind, Primitive, ListOf, Lambda, AttrSet, Union, Named}
 use Rattle.rules.specs.Members.{each}
-use Rattle.rules.specs.Run.{Reader, Visit, flattened, concreteOf, unionNormalized, topIfEmptied, firstOf, fieldsRule, dynRule, unionRule, canonicalize-inner, interRule, rule, visit}
-use Rattle.rules.specs.Run as runs
-use Rattle.rules.specs.Sound.{Orderly, OrderlySet}
+use Rattle.rules.specs.Canonicalizer.{Reader, Visit, flattened, concreteOf, unionNormalized, topIfEmptied, firstMember, fieldsRule, dynRule, unionRule, canonicalize-inner, interRule, rule, visit}
+use Rattle.rules.specs.Canonicalizer as runs
+use Rattle.laws.specs.Sound.{Orderly, OrderlySet}
 use Rattle.rules.specs.declared.Polarity.{Polarity}
-use Rattle.rules.proofs.Keeping.{Keeps, parted, keeps-refuse, keeps-bind, keeps-store, keeps-variable, keeps-negate, keeps-flattened, keeps-concrete, keeps-unionNormalized, keeps-settle, keeps-firstOf}
+use Rattle.laws.proofs.Keeping.{Keeps, parted, keeps-refuse, keeps-bind, keeps-store, keeps-variable, keeps-negate, keeps-flattened, keeps-concrete, keeps-unionNormalized, keeps-settle, keeps-firstOf}
 use Rattle.lang_ty.specs.declared.arena.Pass.{Pass}
 use Rattle.lang_ty.specs.declared.arena.Given.{Given}
 use Rattle.lang_ty.specs.declared.arena.Given.the-variants.{Node as NodeG, Refused}
@@ -36,6 +36,8 @@ use Rattle.lang_check.proofs.Poised.{poised-firm, poised-mover, poised-
 use Rattle.lang_check.proofs.Answered.{goes-visited, Ready, visited-held, held-base}
 use Rattle.lang_check.proofs.Inter.{pair-visited}
 use Rattle.lang_check.proofs.Each.{each-visited}
+use Rattle.cells.specs.Placed.{Under}
+use mathlib.Core.Option.{Option, none, some}
 
 -- an entry of which something is made once its children have answers
 abbrev pub Concrete : Entry → Type 0
@@ -75,16 +77,16 @@ one-visited o k = sym (bind-give o (λ (x : ℕ). x ∷ []) k)
 
 -- the fields of a set one after another, then its dyn
 module _ (v : Visit) (pol : Polarity) where
-  dyn-visited : (d : Maybe ℕ) (k : Maybe ℕ → Run ℕ) (st : State) → bind (dynRule v pol d st) k ≡ bind (each (λ (b : ℕ). v b pol) (dynIds d) st) (λ (xs : List ℕ). k (retypeDyn d (cell xs 0)))
+  dyn-visited : (d : Option ℕ) (k : Option ℕ → Run ℕ) (st : State) → bind (dynRule v pol d st) k ≡ bind (each (λ (b : ℕ). v b pol) (dynIds d) st) (λ (xs : List ℕ). k (retypeDyn d (cell xs 0)))
   dyn-visited none k st = refl
   dyn-visited (some c) k st =
       bind-give (v c pol st) (λ (x : ℕ). some x) k ∙ sym (bind-give (v c pol st) (λ (x : ℕ). x ∷ []) (λ (xs : List ℕ). k (retypeDyn (some c) (cell xs 0))))
 
-  abbrev SetVisited : List Field → Maybe ℕ → Type 0
-  SetVisited fs d = (k : List Field → Maybe ℕ → Run ℕ) (st : State) → bind (fieldsRule v pol fs st) (λ (gs : List Field). dynRule v pol d >>= k gs)
+  abbrev SetVisited : List Field → Option ℕ → Type 0
+  SetVisited fs d = (k : List Field → Option ℕ → Run ℕ) (st : State) → bind (fieldsRule v pol fs st) (λ (gs : List Field). dynRule v pol d >>= k gs)
       ≡ bind (each (λ (b : ℕ). v b pol) (fieldTypes fs ++ dynIds d) st) (λ (xs : List ℕ). k (retypeFields fs xs) (retypeDyn d (cell xs (length fs))))
 
-  field-visited : (f : Field) (fs : List Field) (d : Maybe ℕ) (o : Out ℕ) (k : List Field → Maybe ℕ → Run ℕ) → SetVisited fs d
+  field-visited : (f : Field) (fs : List Field) (d : Option ℕ) (o : Out ℕ) (k : List Field → Option ℕ → Run ℕ) → SetVisited fs d
       → bind (bind o (λ (x : ℕ). fieldsRule v pol fs >>= (λ (gs : List Field). give (record { key = f .key; type = x } ∷ gs)))) (λ (gs : List Field). dynRule v pol d >>= k gs)
       ≡ bind (bind o (λ (x : ℕ). each (λ (b : ℕ). v b pol) (fieldTypes fs ++ dynIds d) >>= (λ (xs : List ℕ). give (x ∷ xs))))
       (λ (xs : List ℕ). k (retypeFields (f ∷ fs) xs) (retypeDyn d (cell xs (suc (length fs)))))
@@ -96,14 +98,14 @@ module _ (v : Visit) (pol : Polarity) where
       ∙ sym (bind-give (each (λ (b : ℕ). v b pol) (fieldTypes fs ++ dynIds d) s) (λ (xs : List ℕ). x ∷ xs)
       (λ (xs : List ℕ). k (retypeFields (f ∷ fs) xs) (retypeDyn d (cell xs (suc (length fs))))))
 
-  set-visited : (fs : List Field) (d : Maybe ℕ) → SetVisited fs d
+  set-visited : (fs : List Field) (d : Option ℕ) → SetVisited fs d
   set-visited [] d k st = dyn-visited d (k []) st
   set-visited (f ∷ fs) d k st = field-visited f fs d (v (f .type) pol st) k (set-visited fs d)
 
 -- unions
-union-rule : (p : runs.Pass) (v : Visit) (a b : ℕ) (pol : Polarity) (st : State) → unionRule p v a b pol st ≡ bind (visited v pol pol (a ∷ b ∷ []) st) (λ (xs : List ℕ). unionEnd p pol xs firstOf)
+union-rule : (p : runs.Pass) (v : Visit) (a b : ℕ) (pol : Polarity) (st : State) → unionRule p v a b pol st ≡ bind (visited v pol pol (a ∷ b ∷ []) st) (λ (xs : List ℕ). unionEnd p pol xs firstMember)
 unfolding unionRule
-union-rule p v a b pol st = pair-visited v a b pol pol (λ (xs : List ℕ). unionEnd p pol xs firstOf) st
+union-rule p v a b pol st = pair-visited v a b pol pol (λ (xs : List ℕ). unionEnd p pol xs firstMember) st
 
 -- the rule of an entry, by its kind
 module _ (p : runs.Pass) (t : Reader) (v : Visit) (id : ℕ) where
@@ -123,7 +125,7 @@ module _ (p : runs.Pass) (t : Reader) (v : Visit) (id : ℕ) where
   rule-made (list a) pol st k = one-visited (v a pol st) (made p pol (list a))
   rule-made (fn a b) pol st k = pair-visited v a b (flip pol) pol (made p pol (fn a b)) st
   rule-made (set a) pol st k =
-      set-visited v pol (a .fields) (a .dyn) (λ (fs : List Field) (d : Maybe ℕ). store (AttrSet (record { fields = fs; dyn = d; isOpen = a .isOpen; optional = a .optional }))) st
+      set-visited v pol (a .fields) (a .dyn) (λ (fs : List Field) (d : Option ℕ). store (AttrSet (record { fields = fs; dyn = d; isOpen = a .isOpen; optional = a .optional }))) st
       ∙ ap (λ (o : Out (List ℕ)). bind o (made p pol (set a))) (each-visited v pol (fieldTypes (a .fields) ++ dynIds (a .dyn)) st)
   rule-made (neg a) pol st k = one-visited (v a (flip pol) st) (made p pol (neg a))
   rule-made (named n a) pol st k = one-visited (v a pol st) (made p pol (named n a))
@@ -156,7 +158,7 @@ keeps-made p pol (union a b) xs o =
     keeps-bind (flattened unionKind xs) _ (keeps-flattened unionKind xs)
     (λ ys. keeps-bind (concreteOf p ys) _ (keeps-concrete p ys)
     (λ ms. keeps-bind (unionNormalized pol ms) _ (keeps-unionNormalized pol ms)
-    (λ zs. keeps-settle (topIfEmptied pol ms) (firstOf ys) Union zs (λ ws. tt) (keeps-firstOf ys))))
+    (λ zs. keeps-settle (topIfEmptied pol ms) (firstMember ys) Union zs (λ ws. tt) (keeps-firstOf ys))))
 keeps-made p pol frozen xs o = keeps-refuse 5
 
 -- what is made of them is the answer

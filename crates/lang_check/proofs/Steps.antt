@@ -11,8 +11,8 @@ use Rattle.cells.specs.Part.{cell}
 use Rattle.cells.specs.Sum.{Sum}
 use Rattle.layout.specs.Layout.{bitsAt, preservedAt}
 use Rattle.rules.specs.Plain.{both}
-use Rattle.rules.specs.Run.{isVariable, isBoth}
-use Rattle.rules.specs.Run as runs
+use Rattle.rules.specs.Canonicalizer.{isVariable, isBoth}
+use Rattle.rules.specs.Canonicalizer as runs
 use Rattle.rules.specs.declared.Polarity.{Polarity}
 use Rattle.lang_ty.specs.declared.arena.Pass.{Pass}
 use Rattle.lang_ty.specs.declared.arena.Given.{Given}

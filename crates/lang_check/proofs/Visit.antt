@@ -13,14 +13,14 @@ use Rattle.layout.specs.Layout.{heldAt, seenAt, workLength, bitsAt}
 use Rattle.rules.specs.Plain.{both}
 use Rattle.rules.specs.Table.{kids}
 use Rattle.rules.specs.Types.{State, Out, ok, Run, bind, _>>=_, refuse, sign}
-use Rattle.rules.specs.Run.{Reader, variable, count-one, check-budget, exceeds, tick, slot, keyAt, look, work, entered, visit, rule}
-use Rattle.rules.specs.Run as runs
+use Rattle.rules.specs.Canonicalizer.{Reader, variable, count-one, check-budget, exceeds, tick, slot, keyAt, look, work, entered, visit, rule}
+use Rattle.rules.specs.Canonicalizer as runs
 use Rattle.rules.specs.declared.Polarity.{Polarity}
 use Rattle.rules.specs.declared.Polarity.the-variants.{Positive, Negative}
-use Rattle.rules.proofs.Storing.{true-false}
-use Rattle.rules.proofs.Keeping.{keeps-variable}
-use Rattle.rules.proofs.Loading.{load-take}
-use Rattle.rules.proofs.Moving.{Firm, Any, any-stays, firm-any, goes-rule, named-keys}
+use Rattle.laws.proofs.Storing.{true-false}
+use Rattle.laws.proofs.Keeping.{keeps-variable}
+use Rattle.laws.proofs.Loading.{load-take}
+use Rattle.laws.proofs.Moving.{Firm, Any, any-stays, firm-any, goes-rule, named-keys}
 use Rattle.lang_ty.specs.declared.arena.Pass.{Pass}
 use Rattle.lang_ty.specs.declared.arena.Given.{Given}
 use Rattle.lang_ty.specs.declared.arena.Given.the-variants.{Node as NodeG, Refused}

@@ -5,16 +5,17 @@ use Prim.Native.Nat.{ℕ, _+_, _*_, _≤_, _<_}
 use mathlib.Core.List.{List, [], _∷_}
 use lib.ListN.{length, set as setAt}
 use lib.Dec.{eqb}
-use Rattle.cells.specs.Part.{if, cell, Under}
+use Rattle.cells.specs.Part.{if, cell}
 use Rattle.layout.specs.Layout.{bitsAt, countedCells, countedNodes, heldAt, workLength}
 use Rattle.rules.specs.Ceilings.{mostCells}
 use Rattle.rules.specs.Plain.{both}
 use Rattle.rules.specs.Table.{Entry, var, prim, tyvar, list, fn, set, neg, named, inter, union, frozen, kids, asSet}
 use Rattle.rules.specs.Types.{State, Out, ok, no, Run, bind, _>>=_, give, refuse, store, Primitive, ListOf, Lambda, AttrSet, Named, Bottom}
 use Rattle.rules.specs.Members.{each, negate-output-ty}
-use Rattle.rules.specs.Run.{Reader, Visit, variable, firstOf, isVariable, expand-bounds, expand-bounds-empty-fallback, canonicalize-inner, interRule, interRetry, rule, visit}
-use Rattle.rules.specs.Run as runs
-use Rattle.rules.specs.Sound.{OrderlySet, Steady, Tabled, load}
+use Rattle.rules.specs.Canonicalizer.{Reader, Visit, variable, firstMember, isVariable, expand-bounds, expand-bounds-empty-fallback}
+use Rattle.rules.specs.Canonicalizer.{canonicalize-inner, interRule, interRetry, rule, visit}
+use Rattle.rules.specs.Canonicalizer as runs
+use Rattle.laws.specs.Sound.{OrderlySet, Steady, Tabled, load}
 use Rattle.rules.specs.declared.Polarity.{Polarity}
 use Rattle.lang_ty.specs.declared.arena.Pass.{Pass}
 use Rattle.lang_ty.specs.declared.arena.Given.{Given}
@@ -35,6 +36,7 @@ use Rattle.composites.specs.declared.lists.Settled.{Settled}
 use Rattle.composites.specs.declared.lists.Settled.the-variants.{Node as NodeS, Empty as EmptyS, Refused as RefusedS}
 use Rattle.composites.specs.declared.binary.Tried.{Tried}
 use Rattle.composites.specs.Places.{Visited, FirstIs, Tries, unionEnd}
+use Rattle.cells.specs.Placed.{Under}
 
 -- the working slice holds the state's keys and bits, and no id is marked as seen
 pub record Keyed (n : ℕ) (st : State) (work : List ℕ) : Type 0 where
@@ -136,7 +138,7 @@ made p pol (set a) xs = store (AttrSet (retyped a xs))
 made p pol (neg a) xs = negate-output-ty (cell xs 0)
 made p pol (named n a) xs = store (Named n (cell xs 0))
 made p pol (inter a b) xs = refuse 5
-made p pol (union a b) xs = unionEnd p pol xs firstOf
+made p pol (union a b) xs = unionEnd p pol xs firstMember
 made p pol frozen xs = refuse 5
 
 -- from h on there is room for a negation of any node
@@ -165,7 +167,8 @@ pub record Retried (w : List ℕ) (t : Tried) (w′ : List ℕ) (r : Given) : Ty
   pub is : (f : (List ℕ → Run ℕ) → Out ℕ) → Tries f w t → Stores (f (λ ys. store Bottom)) w′ r
 
 -- canonicalize_child
-pub record Visits (table : List ℕ) (c : Canon) (w work : List ℕ) (free h : ℕ) (q : Pass) (id : ℕ) (pol : Polarity) (w′ work′ : List ℕ) (r : Given) : Type 0 where
+pub record Visits (table : List ℕ) (c : Canon) (w work : List ℕ) (free h : ℕ) (q : Pass) (id : ℕ) (pol : Polarity) (w′ work′ : List ℕ)
+    (r : Given) : Type 0 where
   pub is : {p : runs.Pass} {t : Reader} {st : State} → Poised table c work h 0 p t st → Stands st w q → id < c .count
       → Answers (visit free p t id pol st) (p .count) w′ work work′ h r
 
@@ -179,12 +182,14 @@ pub record Rules (table : List ℕ) (c : Canon) (w work : List ℕ) (free h : �
       → Answers (rule p t (visit free p t) id (t id) pol st) (p .count) w′ work work′ h r
 
 -- the children of an entry, held from h on and replaced by their answers
-pub record Children (table : List ℕ) (c : Canon) (w work : List ℕ) (free h : ℕ) (q : Pass) (e : Read) (pol : Polarity) (w′ work′ : List ℕ) (r : Flow) : Type 0 where
+pub record Children (table : List ℕ) (c : Canon) (w work : List ℕ) (free h : ℕ) (q : Pass) (e : Read) (pol : Polarity) (w′ work′ : List ℕ)
+    (r : Flow) : Type 0 where
   pub is : {p : runs.Pass} {t : Reader} {st : State} {en : Entry} → ReadAs table e en → Under (c .count) (heldKids en)
       → Poised table c work h (length (heldKids en)) p t st → Stands st w q
       → AnswersHeld (visited (visit free p t) (firstPolarity en pol) pol (heldKids en) st) (p .count) w′ work work′ h (length (heldKids en)) r
 
-pub record Each (table : List ℕ) (c : Canon) (w work : List ℕ) (free h : ℕ) (q : Pass) (n : ℕ) (first pol : Polarity) (w′ work′ : List ℕ) (r : Flow) : Type 0 where
+pub record Each (table : List ℕ) (c : Canon) (w work : List ℕ) (free h : ℕ) (q : Pass) (n : ℕ) (first pol : Polarity) (w′ work′ : List ℕ)
+    (r : Flow) : Type 0 where
   pub is : {p : runs.Pass} {t : Reader} {st : State} {bs : List ℕ} → Poised table c work h n p t st → Stands st w q → HeldList work h n bs → Under (c .count) bs
       → AnswersHeld (visited (visit free p t) first pol bs st) (p .count) w′ work work′ h n r
 
@@ -198,30 +203,37 @@ pub record IsCut (n : ℕ) (q : Pass) (begun : Begun) (pol : Polarity) (r : Bool
   pub is : r ≡ eqb n 0 || both (q .bailed) (λ _. runs.began (begunOf begun) pol)
 
 -- canonicalize_inner
-pub record Inner (table : List ℕ) (c : Canon) (w work : List ℕ) (free h : ℕ) (q : Pass) (id v : ℕ) (pol : Polarity) (w′ work′ : List ℕ) (r : Given) : Type 0 where
+pub record Inner (table : List ℕ) (c : Canon) (w work : List ℕ) (free h : ℕ) (q : Pass) (id v : ℕ) (pol : Polarity) (w′ work′ : List ℕ)
+    (r : Given) : Type 0 where
   pub is : {p : runs.Pass} {t : Reader} {st : State} {l u : List ℕ} → t id ≡ var l u → BoundsAt table v l u
       → Poised table c work h (length (kids (t id))) p t st → Stands st w q → id < c .count
       → Answers (canonicalize-inner p t (visit free p t) id l u pol st) (p .count) w′ work work′ h r
 
 -- expand_bounds but for its fallback
-pub record Gathered (table : List ℕ) (c : Canon) (w work : List ℕ) (free h : ℕ) (q : Pass) (n : ℕ) (pol : Polarity) (w′ work′ : List ℕ) (r : Settled) : Type 0 where
+pub record Gathered (table : List ℕ) (c : Canon) (w work : List ℕ) (free h : ℕ) (q : Pass) (n : ℕ) (pol : Polarity) (w′ work′ : List ℕ)
+    (r : Settled) : Type 0 where
   pub is : {p : runs.Pass} {t : Reader} {st : State} {bs : List ℕ} → Poised table c work h n p t st → Stands st w q → HeldList work h n bs → Under (c .count) bs
       → AnswersGathered (λ rest. expand-bounds p (visit free p t) rest bs pol st) (p .count) w′ work work′ h r
 
 -- expand_bounds
-pub record Expands (table : List ℕ) (c : Canon) (w work : List ℕ) (free h : ℕ) (q : Pass) (chain : ℕ) (begun : Begun) (n id : ℕ) (pol : Polarity) (w′ work′ : List ℕ) (r : Given) : Type 0 where
+pub record Expands (table : List ℕ) (c : Canon) (w work : List ℕ) (free h : ℕ) (q : Pass) (chain : ℕ) (begun : Begun) (n id : ℕ) (pol : Polarity)
+    (w′ work′ : List ℕ) (r : Given) : Type 0 where
   pub is : {p : runs.Pass} {t : Reader} {st : State} {bs : List ℕ} → isVariable (t id) ≡ true
-      → Poised table c work h (length (kids (t id))) p t st → Stands st w q → id < c .count → HeldList work h n bs → Under (c .count) bs → length bs ≤ length (kids (t id))
-      → Answers (expand-bounds p (visit free p t) (expand-bounds-empty-fallback chain p t (visit free p t) (begunOf begun) id pol) bs pol st) (p .count) w′ work work′ h r
+      → Poised table c work h (length (kids (t id))) p t st → Stands st w q → id < c .count → HeldList work h n bs → Under (c .count) bs
+          → length bs ≤ length (kids (t id))
+      → Answers (expand-bounds p (visit free p t) (expand-bounds-empty-fallback chain p t (visit free p t) (begunOf begun) id pol) bs pol st)
+          (p .count) w′ work work′ h r
 
 -- expand_bounds_empty_fallback
-pub record FallsBackTo (table : List ℕ) (c : Canon) (w work : List ℕ) (free h : ℕ) (q : Pass) (chain : ℕ) (begun : Begun) (id : ℕ) (pol : Polarity) (w′ work′ : List ℕ) (r : Given) : Type 0 where
+pub record FallsBackTo (table : List ℕ) (c : Canon) (w work : List ℕ) (free h : ℕ) (q : Pass) (chain : ℕ) (begun : Begun) (id : ℕ) (pol : Polarity)
+    (w′ work′ : List ℕ) (r : Given) : Type 0 where
   pub is : {p : runs.Pass} {t : Reader} {st : State} → isVariable (t id) ≡ true
       → Poised table c work h (length (kids (t id))) p t st → Stands st w q → id < c .count
       → Answers (expand-bounds-empty-fallback chain p t (visit free p t) (begunOf begun) id pol st) (p .count) w′ work work′ h r
 
 -- Ty::Inter
-pub record Inters (table : List ℕ) (c : Canon) (w work : List ℕ) (free h : ℕ) (q : Pass) (a b : ℕ) (pol : Polarity) (w′ work′ : List ℕ) (r : Given) : Type 0 where
+pub record Inters (table : List ℕ) (c : Canon) (w work : List ℕ) (free h : ℕ) (q : Pass) (a b : ℕ) (pol : Polarity) (w′ work′ : List ℕ)
+    (r : Given) : Type 0 where
   pub is : {p : runs.Pass} {t : Reader} {st : State} → Poised table c work h 2 p t st → Stands st w q → a < c .count → b < c .count
       → Answers (interRule p t (visit free p t) a b pol st) (p .count) w′ work work′ h r
 
@@ -234,13 +246,15 @@ pub record Either (table : List ℕ) (c : Canon) (a b : ℕ) (r : Bool) : Type 0
   pub is : {t : Reader} → Reads table c t → a < c .count → b < c .count → r ≡ isVariable (t a) || isVariable (t b)
 
 -- a try f that only stores, and what follows it
-pub record Again (table : List ℕ) (c : Canon) (w work : List ℕ) (free h : ℕ) (tr : Tried) (a b : ℕ) (pol : Polarity) (w′ work′ : List ℕ) (r : Given) : Type 0 where
+pub record Again (table : List ℕ) (c : Canon) (w work : List ℕ) (free h : ℕ) (tr : Tried) (a b : ℕ) (pol : Polarity) (w′ work′ : List ℕ)
+    (r : Given) : Type 0 where
   pub is : {p : runs.Pass} {t : Reader} (f : (List ℕ → Run ℕ) → Out ℕ) → Tries f w tr
       → ((x : ℕ) (after : State) → f (λ ys. give 0) ≡ ok x after → Poised table c work h 2 p t after) → a < c .count → b < c .count
       → Answers (f (afterFirstTry p t (visit free p t) a b pol)) (p .count) w′ work work′ h r
 
 -- the retry; ys are all members of the first try
-pub record Retries (table : List ℕ) (c : Canon) (w work : List ℕ) (free h : ℕ) (q : Pass) (y : Found) (a b : ℕ) (pol : Polarity) (w′ work′ : List ℕ) (r : Given) : Type 0 where
+pub record Retries (table : List ℕ) (c : Canon) (w work : List ℕ) (free h : ℕ) (q : Pass) (y : Found) (a b : ℕ) (pol : Polarity) (w′ work′ : List ℕ)
+    (r : Given) : Type 0 where
   pub is : {p : runs.Pass} {t : Reader} {st : State} (ys : List ℕ) → FirstIs ys y → Under (length (st .nodes)) ys
       → Poised table c work h 2 p t st → Stands st w q → a < c .count → b < c .count
       → Answers (interRetry p t (visit free p t) a b pol ys st) (p .count) w′ work work′ h r

@@ -4,8 +4,8 @@ use mathlib.Core.List.{List}
 use lib.ListN.{length}
 use Rattle.rules.specs.Table.{Entry, var, prim, tyvar, list, fn, set, neg, named, inter, union, frozen}
 use Rattle.rules.specs.Types.{Out, bind}
-use Rattle.rules.specs.Run.{Reader}
-use Rattle.rules.specs.Run as runs
+use Rattle.rules.specs.Canonicalizer.{Reader}
+use Rattle.rules.specs.Canonicalizer as runs
 use Rattle.rules.specs.declared.Polarity.{Polarity}
 use Rattle.lang_ty.specs.declared.arena.Pass.{Pass}
 use Rattle.lang_ty.specs.declared.arena.Given.{Given}

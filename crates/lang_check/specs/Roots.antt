@@ -9,9 +9,9 @@ use Rattle.layout.specs.Layout.{bitsAt, heldAt, preservedAt, workLength, tableL
 use Rattle.rules.specs.Plain.{any}
 use Rattle.rules.specs.Ceilings.{mostOperations}
 use Rattle.rules.specs.Types.{Node, State, Out, ok}
-use Rattle.rules.specs.Run.{Reader, isBoth, pass, shown, refusedWith, afterSecond, canonicalize}
-use Rattle.rules.specs.Run as runs
-use Rattle.rules.specs.Sound.{Tabled}
+use Rattle.rules.specs.Canonicalizer.{Reader, isBoth, pass, shown, refusedWith, afterSecond, canonicalize}
+use Rattle.rules.specs.Canonicalizer as runs
+use Rattle.laws.specs.Sound.{Tabled}
 use Rattle.rules.specs.declared.Polarity.{Polarity}
 use Rattle.lang_ty.specs.declared.arena.Pass.{Pass}
 use Rattle.lang_ty.specs.declared.arena.Given.{Given}
@@ -63,7 +63,8 @@ pub record Detects (table work : List ℕ) (count : ℕ) (table′ : List ℕ) (
 pub record ShownIs (a : runs.Answer) (w : List ℕ) (sh : Shown) : Type 0 where
   pub pass : Pass
   pub nodes : List Node
-  pub is : a ≡ shown (sh .passes) (sh .ops) (sh .sorted) (sh .bailed) nodes (sh .node)
+  pub is : a ≡ shown (record {
+      passes = sh .passes; operations = sh .ops; sorted = sh .sorted; bailed = sh .bailed; nodes = nodes; root = sh .node })
   pub arena : Arena w pass nodes
   pub below : sh .node < length nodes
 

@@ -8,14 +8,15 @@ use mathlib.Core.List.{List, [], _∷_}
 use lib.ListN.{length}
 use lib.Dec.{eqb}
 use borrow.Author.Tests.{eq-eqb, ne-eqb}
-use Rattle.cells.specs.Part.{cell, part, if, Holds}
+use Rattle.cells.specs.Part.{cell, part, if}
 use Rattle.cells.specs.Sum.{Sum}
 use Rattle.cells.proofs.Holding.{holds-head, holds-tail, holds-place}
 use Rattle.rules.specs.Plain.{contains}
 use Rattle.rules.specs.Table.{Field, Attr, fieldKeys}
 use Rattle.rules.specs.Types.{fieldWords}
-use Rattle.rules.proofs.Rows.{attr-words-length, set-count, set-fields, set-dyn, set-open, set-optionals, set-optional, dyns-read, dyn-type-read, key-read, type-read}
+use Rattle.laws.proofs.Rows.{attr-words-length, set-count, set-fields, set-dyn, set-open, set-optionals, set-optional, dyns-read, dyn-type-read, key-read, type-read}
 use Rattle.lang_ty.specs.Sets.{SetAt, openFrom, Fields, Key, FieldType, DynPlace, Dyns, DynType, OpenPlace, Open, Optionals, apart, reach, Among, HasField, HasOptional}
+use Rattle.cells.specs.Placed.{Holds}
 
 module _ {w : List ℕ} {a : ℕ} where
   pub fields-is : {r : ℕ} → r ≡ cell w a → Fields w a r

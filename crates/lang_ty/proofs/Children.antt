@@ -8,7 +8,7 @@ use lib.Seq.{getD-drop, getD-append-add}
 use Rattle.cells.specs.Sum.{Sum}
 use Rattle.rules.specs.Table.{Field, Attr, attrKids, fieldTypes, dynIds}
 use Rattle.rules.specs.Types.{Node, encode, children, nodeAt}
-use Rattle.rules.proofs.Rows.{attr-words-length, few-dyns, nodeBy, node-of, by-kind, members-only, children-behind}
+use Rattle.laws.proofs.Rows.{attr-words-length, few-dyns, nodeBy, node-of, by-kind, members-only, children-behind}
 use Rattle.lang_ty.specs.declared.arena.Pass.{Pass}
 use Rattle.lang_ty.specs.Nodes.{Arena, Word, Kind, Count}
 use Rattle.lang_ty.specs.Sets.{SetAt, Fields, FieldType, Dyns, DynType}

@@ -9,9 +9,9 @@ use mathlib.Core.List.{List, []}
 use lib.ListN.{length, getD, drop, drop-of-length-le}
 use lib.Seq.{drop-cons}
 use Rattle.rules.specs.Types.{Node, nodeAt}
-use Rattle.rules.specs.Order.{end, less, equal, greater, contents, compareNumbers, compareItem, compareItems, firstOf, order}
+use Rattle.rules.specs.Order.{end, less, equal, greater, contents, compareNumbers, compareItem, compareItems, thenBy, order}
 use Rattle.rules.specs.Order as rules-order
-use Rattle.rules.proofs.Ordering.{numbers-less, numbers-equal, numbers-greater, order-same, order-items, UnderItem, under-item, under-contents}
+use Rattle.laws.proofs.Ordering.{numbers-less, numbers-equal, numbers-greater, order-same, order-items, UnderItem, under-item, under-contents}
 use Rattle.lang_ty.specs.declared.arena.Pass.{Pass}
 use Rattle.lang_ty.specs.declared.arc_ty.Item.{Item}
 use Rattle.lang_ty.specs.declared.arc_ty.Item.the-variants.{End, Num, Child}
@@ -104,7 +104,7 @@ module _ {w : List ℕ} {a b i : ℕ} {x y : Item} (first : ItemAt w a i x) (sec
         }
 
 -- a difference decides
-decided : (r : Order) (f : Unit {0} → rules-order.Order) → (r ≡ Equal → ⊥) → orderOf r ≡ firstOf (orderOf r) f
+decided : (r : Order) (f : Unit {0} → rules-order.Order) → (r ≡ Equal → ⊥) → orderOf r ≡ thenBy (orderOf r) f
 decided Less f h = refl
 decided Equal f h = absurd (h refl)
 decided Greater f h = refl
@@ -112,10 +112,10 @@ decided Greater f h = refl
 -- nodes of different kinds, and of one kind
 module _ {w : List ℕ} {a b j k : ℕ} (first : Kind w a j) (second : Kind w b k) where
   by-kinds : {q : Pass} {ns : List Node} → Arena w q ns → a < length ns → b < length ns
-      → order (length ns) ns a b ≡ firstOf (compareNumbers j k) (λ _. compareItems (order (length ns) ns) (contents (nodeAt ns a)) (contents (nodeAt ns b)))
+      → order (length ns) ns a b ≡ thenBy (compareNumbers j k) (λ _. compareItems (order (length ns) ns) (contents (nodeAt ns a)) (contents (nodeAt ns b)))
   by-kinds {q} {ns} h la lb =
       order-items ns (record { is = h .below }) a b la lb
-      ∙ ap₂ (λ (x y : ℕ). firstOf (compareNumbers x y) (λ _. compareItems (order (length ns) ns) (contents (nodeAt ns a)) (contents (nodeAt ns b)))) (sym (first .is h la)) (sym (second .is h lb))
+      ∙ ap₂ (λ (x y : ℕ). thenBy (compareNumbers x y) (λ _. compareItems (order (length ns) ns) (contents (nodeAt ns a)) (contents (nodeAt ns b)))) (sym (first .is h la)) (sym (second .is h lb))
 
   unequal : (r : Order) → (j ≡ k → ⊥) → Numbers j k r → r ≡ Equal → ⊥
   unequal r h g e =
@@ -129,14 +129,14 @@ module _ {w : List ℕ} {a b j k : ℕ} (first : Kind w a j) (second : Kind w b 
       record {
         is = λ {q} {ns} arena la lb.
             let rest = compareItems (order (length ns) ns) (contents (nodeAt ns a)) (contents (nodeAt ns b)) in
-            decided r (λ _. rest) (unequal r h g) ∙ ap (λ (x : rules-order.Order). firstOf x (λ _. rest)) (g .is) ∙ sym (by-kinds arena la lb);
+            decided r (λ _. rest) (unequal r h g) ∙ ap (λ (x : rules-order.Order). thenBy x (λ _. rest)) (g .is) ∙ sym (by-kinds arena la lb);
       }
 
   by-contents : {q : Pass} {ns : List Node} → j ≡ k → Arena w q ns → a < length ns → b < length ns
       → order (length ns) ns a b ≡ compareItems (order (length ns) ns) (contents (nodeAt ns a)) (contents (nodeAt ns b))
   by-contents {q} {ns} e h la lb =
       by-kinds h la lb
-      ∙ ap (λ (x : rules-order.Order). firstOf x (λ _. compareItems (order (length ns) ns) (contents (nodeAt ns a)) (contents (nodeAt ns b)))) (numbers-equal j k e)
+      ∙ ap (λ (x : rules-order.Order). thenBy x (λ _. compareItems (order (length ns) ns) (contents (nodeAt ns a)) (contents (nodeAt ns b)))) (numbers-equal j k e)
 
 -- where one list of items is at its end
 module _ (o : ℕ → ℕ → rules-order.Order) (xs ys : List rules-order.Item) (i : ℕ) where
@@ -178,7 +178,7 @@ module _ {w : List ℕ} {a b l : ℕ} where
 
   module _ {n m i : ℕ} (first : Items w a n) (second : Items w b m) (least : Least n m l) (c : Ordered w a b l i) where
     turn : {q : Pass} {ns : List Node} (r : Order) → i < l → ComparedAt w a b i r → Arena w q ns → a < length ns → b < length ns
-        → firstOf (orderOf r) (λ _. compareItems (order (length ns) ns) (drop (suc i) (contents (nodeAt ns a))) (drop (suc i) (contents (nodeAt ns b))))
+        → thenBy (orderOf r) (λ _. compareItems (order (length ns) ns) (drop (suc i) (contents (nodeAt ns a))) (drop (suc i) (contents (nodeAt ns b))))
         ≡ compareItems (order (length ns) ns) (contents (nodeAt ns a)) (contents (nodeAt ns b))
     turn {q} {ns} r lt g h la lb =
         let o = order (length ns) ns in
@@ -188,7 +188,7 @@ module _ {w : List ℕ} {a b l : ℕ} where
         let y = second .is h lb in
         let ia : i < length xs = omega (arith, least .first) in
         let ib : i < length ys = omega (arith, least .second) in
-        ap (λ (z : rules-order.Order). firstOf z (λ _. compareItems o (drop (suc i) xs) (drop (suc i) ys))) (g .is h la lb ia ib)
+        ap (λ (z : rules-order.Order). thenBy z (λ _. compareItems o (drop (suc i) xs) (drop (suc i) ys))) (g .is h la lb ia ib)
         ∙ sym (ap₂ (compareItems o) (drop-cons xs i end ia) (drop-cons ys i end ib))
         ∙ c .is h la lb
 
@@ -201,7 +201,7 @@ module _ {w : List ℕ} {a b l : ℕ} where
               let xs = contents (nodeAt ns a) in
               let ys = contents (nodeAt ns b) in
               ap (λ (k : ℕ). compareItems o (drop k xs) (drop k ys)) (add-one i)
-              ∙ sym (ap (λ (z : Order). firstOf (orderOf z) (λ _. compareItems o (drop (suc i) xs) (drop (suc i) ys))) e)
+              ∙ sym (ap (λ (z : Order). thenBy (orderOf z) (λ _. compareItems o (drop (suc i) xs) (drop (suc i) ys))) e)
               ∙ turn r lt g h la lb;
         }
 

@@ -10,11 +10,13 @@ use lib.Seq.{drop-cons}
 use Rattle.cells.specs.Part.{cell, part, if, eqList}
 use Rattle.cells.specs.Sum.{Sum}
 use Rattle.cells.proofs.Parts.{left, left-whole, left-next, left-other, left-none, eqList-longer}
-use Rattle.rules.specs.Types.{Node, Bottom, encode, nodeAt, find, at}
+use Rattle.rules.specs.Types.{Node, Bottom, encode, nodeAt}
 use Rattle.lang_ty.specs.declared.arena.Pass.{Pass}
 use Rattle.lang_ty.specs.declared.arena.Found.the-variants.{At, Nowhere}
 use Rattle.lang_ty.specs.Nodes.{Same, Offered, RowIs, Sought}
 use Rattle.lang_ty.proofs.Words.{row-few}
+use mathlib.Core.Option.{some}
+use Rattle.rules.specs.Plain.{find}
 
 -- `same` at word i: what is left to compare says what the whole says
 pub record Comparing (w : List ℕ) (a b n i : ℕ) : Type 0 where
@@ -70,7 +72,7 @@ module _ {w : List ℕ} {i top len a p e l : ℕ} (from : a ≡ cell w i) (next 
 pub record Seeking (w : List ℕ) (nodes top len i : ℕ) : Type 0 where
   pub few : i ≤ nodes
   pub is : {q : Pass} {ns : List Node} {n : Node} → Offered w q top len ns n → nodes ≡ length ns
-      → find (encode n) (drop i (map encode ns)) i ≡ find (encode n) (map encode ns) 0
+      → find (eqList (encode n)) i (drop i (map encode ns)) ≡ find (eqList (encode n)) 0 (map encode ns)
 
 module _ {w : List ℕ} {nodes top len : ℕ} where
   pub seeking-start : Seeking w nodes top len 0
@@ -79,12 +81,12 @@ module _ {w : List ℕ} {nodes top len : ℕ} where
   module _ {i : ℕ} (c : Seeking w nodes top len i) where
     -- row i is searched first, and says b
     turn : {q : Pass} {ns : List Node} {n : Node} {b : Bool} → Offered w q top len ns n → nodes ≡ length ns → i < nodes → b ≡ eqList (encode n) (encode (nodeAt ns i))
-        → if b (λ _. at i) (λ _. find (encode n) (drop (suc i) (map encode ns)) (suc i)) ≡ find (encode n) (map encode ns) 0
+        → if b (λ _. some i) (λ _. find (eqList (encode n)) (suc i) (drop (suc i) (map encode ns))) ≡ find (eqList (encode n)) 0 (map encode ns)
     turn {ns = ns} {n = n} {b = b} o e lt g =
         let rows = map encode ns in
         let k : getD rows i (9 ∷ []) ≡ encode (nodeAt ns i) = List·getD-map encode ns i Bottom in
-        ap (λ (t : Bool). if t (λ _. at i) (λ _. find (encode n) (drop (suc i) rows) (suc i))) (g ∙ ap (eqList (encode n)) (sym k))
-        ∙ sym (ap (λ (l : List (List ℕ)). find (encode n) l i) (drop-cons rows i (9 ∷ []) (omega (arith, length-map ns encode))))
+        ap (λ (t : Bool). if t (λ _. some i) (λ _. find (eqList (encode n)) (suc i) (drop (suc i) rows))) (g ∙ ap (eqList (encode n)) (sym k))
+        ∙ sym (ap (λ (l : List (List ℕ)). find (eqList (encode n)) i l) (drop-cons rows i (9 ∷ []) (omega (arith, length-map ns encode))))
         ∙ c .is o e
 
     pub seeking-here : {b : Bool} → RowIs w i top len b → b ≡ true → i < nodes → Sought w nodes top len (At i)
@@ -95,12 +97,12 @@ module _ {w : List ℕ} {nodes top len : ℕ} where
         record {
           few = omega arith;
           is = λ {q} {ns} {n} o e.
-              ap (λ (k : ℕ). find (encode n) (drop k (map encode ns)) k) (add-one i) ∙ turn o e lt (sym t ∙ g .is o (omega arith));
+              ap (λ (k : ℕ). find (eqList (encode n)) k (drop k (map encode ns))) (add-one i) ∙ turn o e lt (sym t ∙ g .is o (omega arith));
         }
 
     pub seeking-done : nodes ≤ i → Sought w nodes top len Nowhere
     seeking-done h =
         record {
           is = λ {q} {ns} {n} o e.
-              sym (ap (λ (l : List (List ℕ)). find (encode n) l i) (drop-of-length-le (map encode ns) {i = i} (omega (arith, length-map ns encode)))) ∙ c .is o e;
+              sym (ap (λ (l : List (List ℕ)). find (eqList (encode n)) i l) (drop-of-length-le (map encode ns) {i = i} (omega (arith, length-map ns encode)))) ∙ c .is o e;
         }

@@ -5,16 +5,16 @@ use native.Mathlib.Omega.{arith}
 use mathlib.Core.List.{List, [], _∷_, _++_, map}
 use lib.ListN.{length, set, length-append, length-map, length-set}
 use lib.Seq.{getD-set-same, getD-set-other}
-use Rattle.cells.specs.Part.{cell, Holds, Under}
+use Rattle.cells.specs.Part.{cell, eqList}
 use Rattle.cells.specs.Sum.{Sum}
 use Rattle.cells.proofs.Parts.{run-ext}
 use Rattle.cells.proofs.Holding.{holds-place}
 use Rattle.layout.specs.Layout.{arenaWords}
 use Rattle.rules.specs.Ceilings.{mostMembers, mostNodes, mostCells}
 use Rattle.cells.proofs.Sums.{sum-low, sum-most}
-use Rattle.rules.specs.Types.{State, Out, ok, Node, encode, nodeAt, members, children, find, grown, keep, at, nowhere}
-use Rattle.rules.proofs.Rows.{row-length}
-use Rattle.rules.proofs.Storing.{by-place, node-before, node-last, rooted-more, hit, keep-full, keep-over, keep-new, store-few}
+use Rattle.rules.specs.Types.{State, Out, ok, Node, encode, nodeAt, members, children, grown, keep}
+use Rattle.laws.proofs.Rows.{row-length}
+use Rattle.laws.proofs.Storing.{by-place, node-before, node-last, rooted-more, hit, keep-full, keep-over, keep-new, store-few}
 use Rattle.lang_ty.specs.declared.arena.Pass.{Pass}
 use Rattle.lang_ty.specs.declared.arena.Given.{Given}
 use Rattle.lang_ty.specs.declared.arena.Given.the-variants.{Node as NodeG, Refused}
@@ -22,6 +22,9 @@ use Rattle.lang_ty.specs.declared.arena.Found.{Found}
 use Rattle.lang_ty.specs.declared.arena.Found.the-variants.{At, Nowhere}
 use Rattle.lang_ty.proofs.Words.{low, high}
 use Rattle.lang_ty.specs.Nodes.{Arena, Stands, Answers, Fits, Sought, Kept, Interned, foundOf}
+use Rattle.cells.specs.Placed.{Holds, Under}
+use mathlib.Core.Option.{some, none}
+use Rattle.rules.specs.Plain.{find}
 
 -- the pass with one more node
 abbrev after : Pass → ℕ → Pass
@@ -110,7 +113,7 @@ module _ {w : List ℕ} {q : Pass} {end count : ℕ} where
 -- `intern`: the search found the row, or did not
 module _ {w : List ℕ} {q : Pass} {top len count : ℕ} {f : Found} (at-top : top ≡ cell w (q .nodes)) (sought : Sought w (q .nodes) top len f) where
   offered : {st : State} {n : Node} → Stands st w q → Fits n (q .nodes) count → Holds w (cell w (q .nodes)) (encode n) → len ≡ length (encode n)
-      → foundOf f ≡ find (encode n) (map encode (st .nodes)) 0
+      → foundOf f ≡ find (eqList (encode n)) 0 (map encode (st .nodes))
   offered {st} {n} on fits row size =
       sought .is {n = n} (record { arena = on .arena; row = holds-place (sym at-top) row; size = size; short = omega (arith, fits .short) }) (sym (on .arena .count))
 
@@ -118,7 +121,7 @@ module _ {w : List ℕ} {q : Pass} {top len count : ℕ} {f : Found} (at-top : t
   interned-old {i} e =
       record {
         is = λ {st} {n} on fits row size.
-            let found : find (encode n) (map encode (st .nodes)) 0 ≡ at i = sym (offered on fits row size) ∙ ap foundOf e in
+            let found : find (eqList (encode n)) 0 (map encode (st .nodes)) ≡ some i = sym (offered on fits row size) ∙ ap foundOf e in
             record {
               is = record {
                 after = st;
@@ -133,7 +136,7 @@ module _ {w : List ℕ} {q : Pass} {top len count : ℕ} {f : Found} (at-top : t
   interned-new {w′ = w′} {r = r} e sum kept =
       record {
         is = λ {st} {n} on fits row size.
-            let found : find (encode n) (map encode (st .nodes)) 0 ≡ nowhere = sym (offered on fits row size) ∙ ap foundOf e in
+            let found : find (eqList (encode n)) 0 (map encode (st .nodes)) ≡ none = sym (offered on fits row size) ∙ ap foundOf e in
             let is = sum .is (omega (arith, on .arena .top, on .arena .few, on .arena .cells, fits .short)) in
             subst (λ (o : Out ℕ). Answers o w′ r) (sym (store-few n st (fits .few) ∙ ap (keep n st) found))
             (kept .is on fits row (omega arith));

@@ -12,7 +12,7 @@ use Rattle.cells.proofs.Parts.{run-length, run-snoc}
 use Rattle.cells.proofs.Holding.{holds-none, holds-place, holds-list, holds-cons, holds-both, holds-ext}
 use Rattle.rules.specs.Ceilings.{mostMembers}
 use Rattle.rules.specs.Types.{State, encode, members, nodeAt}
-use Rattle.rules.proofs.Storing.{store-many}
+use Rattle.laws.proofs.Storing.{store-many}
 use Rattle.lang_ty.specs.declared.arena.Pass.{Pass}
 use Rattle.lang_ty.specs.declared.arena.Given.{Given}
 use Rattle.lang_ty.specs.declared.arena.Given.the-variants.{Refused}

@@ -9,20 +9,21 @@ use lib.ListN.{length, drop, length-map, drop-of-length-le}
 use lib.Seq.{drop-cons}
 use lib.Dec.{eqb, ltb, leb}
 use borrow.Author.Tests.{eq-eqb, ne-eqb, leb-true, leb-false, lt-leb, not-true, not-false}
-use Rattle.cells.specs.Part.{cell, if, Holds}
+use Rattle.cells.specs.Part.{cell, if}
 use Rattle.cells.specs.Sum.{Sum}
 use Rattle.cells.proofs.Holding.{holds-tail, holds-place}
 use Rattle.rules.specs.Plain.{any, both, contains}
 use Rattle.rules.specs.Table.{Field, Attr, attrAt, fieldKeys}
 use Rattle.rules.specs.Types.{Node, encode, kindOf, nodeAt}
 use Rattle.rules.specs.Members.{is-subtype-of, lacks, Shape, attrSetS, lambdaS, shapeOf, are-shapes-disjoint, are-output-types-disjoint}
-use Rattle.rules.proofs.Rows.{node-of}
-use Rattle.rules.proofs.Shapes.{shape-known, shape-other, opaque-first, opaque-second, plain-alike, other-shapes}
+use Rattle.laws.proofs.Rows.{node-of}
+use Rattle.laws.proofs.Shapes.{shape-known, shape-other, opaque-first, opaque-second, plain-alike, other-shapes}
 use Rattle.lang_ty.specs.declared.arena.Pass.{Pass}
 use Rattle.lang_ty.specs.Nodes.{Arena, Word, Kind}
 use Rattle.lang_ty.specs.Sets.{SetAt, Fields, Key, Open, HasField, HasOptional}
 use Rattle.lang_ty.specs.Shapes.{Subtype, SetPlace, Alone, Lacks, Apart, Constructor, SameDisjoint, Disjoint}
 use Rattle.lang_ty.proofs.Words.{row-few, primitive-at}
+use Rattle.cells.specs.Placed.{Holds}
 
 pub subtype-no : {a b : ℕ} → (b ≡ 2 → ⊥) → Subtype a b false
 unfolding is-subtype-of

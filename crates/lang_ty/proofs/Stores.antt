@@ -4,7 +4,7 @@ use Prim.Native.Nat.{ℕ, _+_, _*_, _≤_, _<_}
 use native.Mathlib.Omega.{arith}
 use mathlib.Core.List.{List, [], _∷_}
 use lib.ListN.{length}
-use Rattle.cells.specs.Part.{cell, part, Holds, Under}
+use Rattle.cells.specs.Part.{cell, part}
 use Rattle.layout.specs.Layout.{arenaWords, arenaLength}
 use Rattle.rules.specs.Table.{Attr, attrKids}
 use Rattle.rules.specs.Types.{State, Out, no, Node, TyVar, Primitive, ListOf, Lambda, AttrSet, Union, Intersection, Named, Neg, Bottom, Top, encode, store}
@@ -12,6 +12,7 @@ use Rattle.lang_ty.specs.declared.arena.Pass.{Pass}
 use Rattle.lang_ty.specs.declared.arena.Given.{Given}
 use Rattle.lang_ty.specs.declared.arena.Given.the-variants.{Node as NodeG, Refused}
 use Rattle.lang_ty.specs.Nodes.{Stands, Gives, Answer, Answers, Fits, Interned, Stored, Listed}
+use Rattle.cells.specs.Placed.{Holds, Under}
 
 module _ {o : Out ℕ} {w : List ℕ} {r : Given} where
   pub gives : {x : ℕ} {q : Pass} → Answers o w r → r ≡ NodeG x q → Gives o w x q

@@ -11,7 +11,7 @@ use Rattle.cells.specs.Sum.{Sum}
 use Rattle.cells.proofs.Holding.{holds-at}
 use Rattle.layout.specs.Layout.{arenaWords}
 use Rattle.rules.specs.Types.{Node, TyVar, Primitive, Neg, encode, kindOf, members, nodeAt}
-use Rattle.rules.proofs.Rows.{nodeBy, node-of, by-kind, row-some, union-row, intersection-row, no-members, members-row}
+use Rattle.laws.proofs.Rows.{nodeBy, node-of, by-kind, row-some, union-row, intersection-row, no-members, members-row}
 use Rattle.lang_ty.specs.declared.arena.Pass.{Pass}
 use Rattle.lang_ty.specs.Nodes.{highest, Arena, Word, Kind, Is, Count, Member}
 

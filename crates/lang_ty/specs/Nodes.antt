@@ -4,17 +4,20 @@ use mathlib.Core.Path.{_≡_}
 use mathlib.Core.Bool.{Bool}
 use Prim.Native.Nat.{ℕ, suc, _+_, _*_, _≤_, _<_}
 use mathlib.Core.List.{List, _∷_, map}
+use mathlib.Core.Option.{Option, none, some}
 use lib.ListN.{length, getD, set}
-use Rattle.cells.specs.Part.{cell, part, eqList, Holds, Under}
+use Rattle.cells.specs.Part.{cell, part, eqList}
 use Rattle.layout.specs.Layout.{arenaWords, arenaLength}
 use Rattle.rules.specs.Ceilings.{mostMembers, mostNodes, mostCells}
 use Rattle.rules.specs.Types.{State, Out, ok, no, encode, kindOf, members, children, cellsOf, nodeAt, store}
+use Rattle.rules.specs.Plain.{find}
 use Rattle.rules.specs.Types as rules
 use Rattle.lang_ty.specs.declared.arena.Pass.{Pass}
 use Rattle.lang_ty.specs.declared.arena.Given.{Given}
 use Rattle.lang_ty.specs.declared.arena.Given.the-variants.{Node, Refused}
 use Rattle.lang_ty.specs.declared.arena.Found.{Found}
 use Rattle.lang_ty.specs.declared.arena.Found.the-variants.{At, Nowhere}
+use Rattle.cells.specs.Placed.{Holds, Under}
 
 -- where the last row ends at most
 abbrev pub highest : ℕ
@@ -88,12 +91,13 @@ pub record Offered (w : List ℕ) (q : Pass) (top len : ℕ) (ns : List rules.No
 pub record RowIs (w : List ℕ) (i top len : ℕ) (r : Bool) : Type 0 where
   pub is : {q : Pass} {ns : List rules.Node} {n : rules.Node} → Offered w q top len ns n → i < length ns → r ≡ eqList (encode n) (encode (nodeAt ns i))
 
-abbrev pub foundOf : Found → rules.Found
-foundOf (At i) = rules.at i
-foundOf Nowhere = rules.nowhere
+abbrev pub foundOf : Found → Option ℕ
+foundOf (At i) = some i
+foundOf Nowhere = none
 
 pub record Sought (w : List ℕ) (nodes top len : ℕ) (r : Found) : Type 0 where
-  pub is : {q : Pass} {ns : List rules.Node} {n : rules.Node} → Offered w q top len ns n → nodes ≡ length ns → foundOf r ≡ rules.find (encode n) (map encode ns) 0
+  pub is : {q : Pass} {ns : List rules.Node} {n : rules.Node} → Offered w q top len ns n → nodes ≡ length ns
+      → foundOf r ≡ find (eqList (encode n)) 0 (map encode ns)
 
 -- what is asked of a node that is to be stored behind k others: its cells, members no more than may be, its children among those, and a
 -- row that has room
@@ -106,7 +110,7 @@ pub record Fits (n : rules.Node) (k count : ℕ) : Type 0 where
 -- n as the next node; 8 where it would be a 4,097th, 9 where "node cells in a pass would pass 16,384"
 pub record Kept (w : List ℕ) (q : Pass) (end cells : ℕ) (w′ : List ℕ) (r : Given) : Type 0 where
   pub is : {st : State} {n : rules.Node} → Stands st w q → Fits n (q .nodes) cells → Holds w (cell w (q .nodes)) (encode n)
-      → end ≡ cell w (q .nodes) + length (encode n) → Answers (rules.keep n st rules.nowhere) w′ r
+      → end ≡ cell w (q .nodes) + length (encode n) → Answers (rules.keep n st none) w′ r
 
 -- the len words behind the last row, as a node: "Storing an equal node again takes nothing"
 pub record Interned (w : List ℕ) (q : Pass) (len cells : ℕ) (w′ : List ℕ) (r : Given) : Type 0 where

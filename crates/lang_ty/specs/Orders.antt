@@ -52,7 +52,8 @@ pub record SetItems (w : List ℕ) (a r : ℕ) : Type 0 where
   pub is : {t : Attr} → SetAt w a t → r ≡ length (attrItems t)
 
 pub record SetRest (w : List ℕ) (a i : ℕ) (r : Item) : Type 0 where
-  pub is : {t : Attr} → SetAt w a t → suc (2 * length (t .fields)) + i < length (attrItems t) → itemOf r ≡ getD (attrItems t) (suc (2 * length (t .fields)) + i) end
+  pub is : {t : Attr} → SetAt w a t → suc (2 * length (t .fields)) + i < length (attrItems t)
+      → itemOf r ≡ getD (attrItems t) (suc (2 * length (t .fields)) + i) end
 
 pub record SetItem (w : List ℕ) (a i : ℕ) (r : Item) : Type 0 where
   pub is : {t : Attr} → SetAt w a t → i < length (attrItems t) → itemOf r ≡ getD (attrItems t) i end
@@ -90,7 +91,8 @@ pub record Plainly (a b : Item) (r : Order) : Type 0 where
   pub is : (o : ℕ → ℕ → rules-order.Order) → ((x : ℕ) → a ≡ Child x → ⊥) → orderOf r ≡ compareItem o (itemOf a) (itemOf b)
 
 pub record ComparedAt (w : List ℕ) (a b i : ℕ) (r : Order) : Type 0 where
-  pub is : {q : Pass} {ns : List Node} → Arena w q ns → a < length ns → b < length ns → i < length (contents (nodeAt ns a)) → i < length (contents (nodeAt ns b))
+  pub is : {q : Pass} {ns : List Node} → Arena w q ns → a < length ns → b < length ns → i < length (contents (nodeAt ns a))
+      → i < length (contents (nodeAt ns b))
       → orderOf r ≡ compareItem (order (length ns) ns) (getD (contents (nodeAt ns a)) i end) (getD (contents (nodeAt ns b)) i end)
 
 -- "by kind in OutputTy's order, then contents"

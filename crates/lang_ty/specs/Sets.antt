@@ -4,10 +4,11 @@ use mathlib.Core.Bool.{Bool}
 use Prim.Native.Nat.{ℕ, zero, suc, _+_, _*_, _≤_, _<_}
 use mathlib.Core.List.{List, [], _∷_}
 use lib.ListN.{length, getD}
-use Rattle.cells.specs.Part.{cell, Holds}
+use Rattle.cells.specs.Part.{cell}
 use Rattle.rules.specs.Plain.{contains}
 use Rattle.rules.specs.Table.{Attr, fieldKeys, fieldTypes, dynIds}
 use Rattle.rules.specs.Types.{attrWords}
+use Rattle.cells.specs.Placed.{Holds}
 
 -- the set t stands in w from a on, at places that are numbers of a row
 pub record SetAt (w : List ℕ) (a : ℕ) (t : Attr) : Type 0 where

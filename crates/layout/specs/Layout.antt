@@ -52,6 +52,23 @@ areaLength = 2048
 abbrev pub workLength : ℕ
 workLength = 49152
 
+-- the same slice while recheck looks for the roots that an edit reaches: the last link to each entry, for each link the one to the same entry before it
+-- and the entry that it goes from, marks of the entries reached, and these in a queue
+abbrev pub headsAt : ℕ
+headsAt = 0
+
+abbrev pub nextAt : ℕ
+nextAt = 2048
+
+abbrev pub fromAt : ℕ
+fromAt = 10241
+
+abbrev pub reachedAt : ℕ
+reachedAt = 18434
+
+abbrev pub queueAt : ℕ
+queueAt = 20482
+
 -- in the old table of a recheck, behind the places of the roots' old lines
 abbrev pub redoneAt : ℕ
 redoneAt = 65
@@ -71,6 +88,12 @@ pub record PassStated (words bits seen held : ℕ) : Type 0 where
   pub bits-at : bits ≡ bitsAt
   pub seen-at : seen ≡ seenAt
   pub held-at : held ≡ heldAt
+
+pub record LinksStated (next from marks queue : ℕ) : Type 0 where
+  pub next-at : next ≡ nextAt
+  pub from-at : from ≡ fromAt
+  pub marks-at : marks ≡ reachedAt
+  pub queue-at : queue ≡ queueAt
 
 pub record OthersStated (nodes cells redone line : ℕ) : Type 0 where
   pub nodes-at : nodes ≡ countedNodes

@@ -1,7 +1,7 @@
 // What lies where in the lent slices, and how long each of them is. Nothing else knows: a length that changes is changed here, and in
 // specs/Layout.antt, which has the same numbers for the contracts.
 ghost use mathlib.Core.Path.{_≡_};
-ghost use Rattle.layout.specs.Layout.{areaLength, TableStated, PassStated, OthersStated, LengthsStated};
+ghost use Rattle.layout.specs.Layout.{areaLength, headsAt, TableStated, PassStated, LinksStated, OthersStated, LengthsStated};
 
 // A table that was read: for each entry its representative, whether it is marked, and whether the pass preserves it; then where each line's
 // row begins, and the rows. A row's beginning is a place of the slice.
@@ -78,6 +78,8 @@ impl DraftSlice {
 pub fn stated()
     ensures table { λ _. do ⌜ TableStated (← ⟦TableSlice::MARKS⟧ .entry) (← ⟦TableSlice::PRESERVED⟧ .entry) (← ⟦TableSlice::ROWS⟧ .entry) (← ⟦TableSlice::WORDS⟧ .entry) ⌝ }
     ensures pass { λ _. do ⌜ PassStated (← ⟦ArenaSlice::WORDS⟧ .entry) (← ⟦WorkSlice::BITS⟧ .entry) (← ⟦WorkSlice::SEEN⟧ .entry) (← ⟦WorkSlice::HELD⟧ .entry) ⌝ }
+    ensures heads { λ _. do ⌜ (← ⟦LinkSlice::HEAD⟧ .entry) ≡ headsAt ⌝ }
+    ensures links { λ _. do ⌜ LinksStated (← ⟦LinkSlice::NEXT⟧ .entry) (← ⟦LinkSlice::FROM⟧ .entry) (← ⟦LinkSlice::MARKS⟧ .entry) (← ⟦LinkSlice::QUEUE⟧ .entry) ⌝ }
     ensures others { λ _. do ⌜ OthersStated (← ⟦WorkSlice::COUNTED_NODES⟧ .entry) (← ⟦WorkSlice::COUNTED_CELLS⟧ .entry) (← ⟦SpanSlice::REDONE⟧ .entry) (← ⟦ArenaSlice::LINE⟧ .entry) ⌝ }
     ensures area { λ _. do ⌜ (← ⟦WorkSlice::AREA⟧ .entry) ≡ areaLength ⌝ }
     ensures lengths { λ _. do ⌜ LengthsStated (← ⟦TableSlice::LENGTH⟧ .entry) (← ⟦ArenaSlice::LENGTH⟧ .entry) (← ⟦WorkSlice::LENGTH⟧ .entry) (← ⟦DraftSlice::LENGTH⟧ .entry) ⌝ }

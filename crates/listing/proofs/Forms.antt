@@ -10,7 +10,7 @@ use borrow.Author.Tests.{eq-eqb, ne-eqb, le-leb, lt-leb, not-true, not-false}
 use Rattle.cells.specs.Part.{if, cell, part}
 use Rattle.cells.proofs.Parts.{run-length}
 use Rattle.rules.specs.Ceilings.{mostMembers, mostNodes}
-use Rattle.rules.specs.Plain.{Maybe, none, some, both, ascending}
+use Rattle.rules.specs.Plain.{both, ascending}
 use Rattle.rules.specs.Table.{attrAt, allBelow, keysIn, keysAscend}
 use Rattle.rules.specs.Types.{Node, TyVar, Primitive, ListOf, Lambda, AttrSet, Union, Intersection, Named, Neg, Bottom, Top}
 use Rattle.rules.specs.Listing.{nodeOf, nodeFits, within, forRoot, nodesAfter}
@@ -20,7 +20,8 @@ use Rattle.text.specs.Reads.{numOf}
 use Rattle.table.specs.declared.rows.Places.{Places}
 use Rattle.table.specs.Rows.{At, Ascend, Below, Placed, SetKnown, KeysKnown}
 use Rattle.table.proofs.Entries.{part-every, set-keys, set-optional}
-use Rattle.listing.specs.Olds.{row, SetFits, MembersFit, NodeFits, Within, ForRoot, Count}
+use Rattle.listing.specs.Olds.{asked, row, SetFits, MembersFit, NodeFits, Within, ForRoot, Count}
+use mathlib.Core.Option.{Option, none, some}
 
 both-true : (b : Bool) → both b (λ _. true) ≡ b
 both-true true = refl
@@ -148,7 +149,7 @@ within-low {a} {b} {x} h = record { is = sym (ap (λ (t : Bool). both t (λ _. l
 pub within-out : {a b x : ℕ} → x < a → Within a b x false
 within-out {a} {b} {x} h = record { is = sym (ap (λ (t : Bool). both t (λ _. leb x b)) (lt-leb a x h)) }
 
-id-so : (w : List ℕ) (to id sign x : ℕ) (t : Bool) → At w 0 to 1 x → eqb x id ≡ t → forRoot (id ∷ sign ∷ []) (row w to) ≡ both t (λ _. eqb (cell (row w to) 2) sign)
+id-so : (w : List ℕ) (to id sign x : ℕ) (t : Bool) → At w 0 to 1 x → eqb x id ≡ t → forRoot (asked id sign) (row w to) ≡ both t (λ _. eqb (cell (row w to) 2) sign)
 id-so w to id sign x t a e = ap (λ (u : Bool). both u (λ _. eqb (cell (row w to) 2) sign)) (ap (λ (n : ℕ). eqb n id) (sym (a .is)) ∙ e)
 
 module _ {w : List ℕ} {to id sign x : ℕ} (a : At w 0 to 1 x) where
@@ -158,17 +159,17 @@ module _ {w : List ℕ} {to id sign x : ℕ} (a : At w 0 to 1 x) where
   pub root-other : (x ≡ id → ⊥) → ForRoot w to id sign false
   root-other e = record { is = sym (id-so w to id sign x false a (ne-eqb x id e)) }
 
-abbrev countBy : ℕ → Bool → Bool → Bool → Bool → ℕ → Maybe ℕ
+abbrev countBy : ℕ → Bool → Bool → Bool → Bool → ℕ → Option ℕ
 countBy k f p q r n =
     if (both (both (eqb k 1) (λ _. f)) (λ _. both p (λ _. q))) (λ _. some n)
     (λ _. if (both (both (eqb k 2) (λ _. f)) (λ _. r)) (λ _. some 0) (λ _. none))
 
 module _ {w : List ℕ} {to id sign k x n : ℕ} {f : Bool} (hk : At w 0 to 0 k) (hx : At w 0 to 3 x) (hn : At w 0 to 7 n) (hf : ForRoot w to id sign f) where
-  count-so : countBy k f (within 1 2 x) (within 1 mostNodes n) (within 6 9 x) n ≡ nodesAfter (id ∷ sign ∷ []) (some (row w to))
+  count-so : countBy k f (within 1 2 x) (within 1 mostNodes n) (within 6 9 x) n ≡ nodesAfter (asked id sign) (some (row w to))
   count-so =
       ap (λ (j : ℕ). countBy j f (within 1 2 x) (within 1 mostNodes n) (within 6 9 x) n) (hk .is)
       ∙ ap (λ (g : Bool). countBy (cell (row w to) 0) g (within 1 2 x) (within 1 mostNodes n) (within 6 9 x) n) (hf .is)
-      ∙ ap₂ {C = Maybe ℕ} (λ (y m : ℕ). countBy (cell (row w to) 0) (forRoot (id ∷ sign ∷ []) (row w to)) (within 1 2 y) (within 1 mostNodes m) (within 6 9 y) m) (hx .is) (hn .is)
+      ∙ ap₂ {C = Option ℕ} (λ (y m : ℕ). countBy (cell (row w to) 0) (forRoot (asked id sign) (row w to)) (within 1 2 y) (within 1 mostNodes m) (within 6 9 y) m) (hx .is) (hn .is)
 
   counted : (r : Num) → numOf r ≡ countBy k f (within 1 2 x) (within 1 mostNodes n) (within 6 9 x) n → Count w to id sign r
   counted r e = record { is = e ∙ count-so }

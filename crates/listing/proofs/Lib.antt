@@ -1,3 +1,10 @@
 pub mod Texts
+pub mod Positions
+pub mod Walking
+pub mod Numbering
+pub mod Listings
+pub mod Heads
+pub mod Contents
+pub mod NodeLines
 pub mod Forms
 pub mod Takes

@@ -4,7 +4,7 @@ use mathlib.Core.Bool.{Bool, true, false, not}
 use mathlib.Core.Logic.{⊎-elim}
 use Prim.Native.Nat.{ℕ, suc, _+_, _-_, _≤_, _<_}
 use native.Mathlib.Omega.{arith}
-use native.Mathlib.Nat.{eq-or-lt-of-le}
+use native.Mathlib.Nat.{eq-or-lt-of-le, not-suc-le-zero}
 use native.Mathlib.Numerals.{add-one}
 use mathlib.Core.List.{List, [], _∷_, _++_, append-nil, append-assoc}
 use lib.ListN.{length, getD, set, drop, length-set, drop-of-length-le}
@@ -15,11 +15,11 @@ use Rattle.cells.specs.Part.{if, cell, run}
 use Rattle.cells.proofs.Parts.{run-snoc, run-ext}
 use Rattle.layout.specs.Layout.{lineLength}
 use Rattle.rules.specs.Ceilings.{mostText}
-use Rattle.rules.specs.Plain.{Maybe, none, some, both}
+use Rattle.rules.specs.Plain.{both}
 use Rattle.rules.specs.Text.{tab, lineFeed, cut, pieces, parted, number, byWord, rowOf}
-use Rattle.rules.specs.Table.{Result, accepted, refused, then}
+use Rattle.rules.specs.Table.{Root, Result, accepted, refused, then}
 use Rattle.rules.specs.Types.{nodeKinds}
-use Rattle.rules.specs.Listing.{headKinds, isNumber, rowFits, nodeLineFits, nodeInForm, Taking, nextLine, taken, takeNode, takeNodes, nodesAfter, takeAfter, takeRoot, atEnd, takeRoots, isAnswers, oldListing}
+use Rattle.rules.specs.Listing.{headKinds, isNumber, rowFits, nodeLineFits, nodeInForm, Taking, nextLine, takeLine, takeNode, takeNodes, nodesAfter, takeAfter, takeRoot, atEnd, takeRoots, isAnswers, oldListing}
 use Rattle.text.specs.declared.Num.{Num}
 use Rattle.text.specs.declared.Num.the-variants.{No, Is}
 use Rattle.text.specs.declared.Got.{Got}
@@ -31,14 +31,15 @@ use Rattle.listing.specs.declared.old.Old.{Old}
 use Rattle.listing.specs.declared.old.Old.the-variants.{InForm, Refused}
 use Rattle.listing.specs.declared.old.Reached.{Reached}
 use Rattle.listing.specs.declared.old.Reached.the-variants.{At as AtV, Fault}
-use Rattle.listing.specs.Olds.{row, NodeFits, NodeLine, Ready, takingAt, nextOf, Goes, Nodes, Count, After, Root, RootsAt, RootWord, rootSpan, Roots, IsAnswers, Read}
+use Rattle.listing.specs.Olds.{asked, row, NodeFits, NodeLine, Ready, takingAt, nextOf, Goes, Nodes, Count, After, TakesRoot, RootsAt, RootWord, rootSpan, Roots, IsAnswers, Read}
+use mathlib.Core.Option.{Option, none, some}
 
 -- a line's row, or none
 pub after-bad : {s w w′ : List ℕ} {from to id sign : ℕ} {r : Got} → Row headKinds s from to 0 w w′ r → r ≡ Bad → After s from to id sign No
-after-bad {w′ = w′} {id} {sign} h e = record { is = ap (nodesAfter (id ∷ sign ∷ [])) (ap (gotWords 0 w′) (sym e) ∙ h .wrote .is) }
+after-bad {w′ = w′} {id} {sign} h e = record { is = ap (nodesAfter (asked id sign)) (ap (gotWords 0 w′) (sym e) ∙ h .wrote .is) }
 
 pub after-count : {s w w′ : List ℕ} {from to id sign t : ℕ} {r : Got} {n : Num} → Row headKinds s from to 0 w w′ r → r ≡ To t → Count w′ t id sign n → After s from to id sign n
-after-count {w′ = w′} {id} {sign} h e c = record { is = c .is ∙ ap (nodesAfter (id ∷ sign ∷ [])) (ap (gotWords 0 w′) (sym e) ∙ h .wrote .is) }
+after-count {w′ = w′} {id} {sign} h e c = record { is = c .is ∙ ap (nodesAfter (asked id sign)) (ap (gotWords 0 w′) (sym e) ∙ h .wrote .is) }
 
 pub answers-bad : {s w w′ : List ℕ} {from to n : ℕ} {r : Got} → Row headKinds s from to 0 w w′ r → r ≡ Bad → IsAnswers s from to n false
 answers-bad {w′ = w′} {n = n} h e = record { is = ap (isAnswers n) (ap (gotWords 0 w′) (sym e) ∙ h .wrote .is) }
@@ -62,10 +63,10 @@ line-split s from to k y =
     let here : k < to → pieces tab (span s from to) ≡ span s from k ∷ left s (k + 1) to = λ q. y .here q ∙ simp (le-ltb to (k + 1) (omega arith)) in
     ⊎-elim last here (eq-or-lt-of-le (y .high))
 
-form-so : (s : List ℕ) (from to k names i : ℕ) (m : Maybe ℕ) → Seek s from to 9 k → m ≡ number (span s from k) → both (isNumber i m) (λ _. rowFits names i (byWord nodeKinds (left s (k + 1) to))) ≡ nodeInForm names i (span s from to)
+form-so : (s : List ℕ) (from to k names i : ℕ) (m : Option ℕ) → Seek s from to 9 k → m ≡ number (span s from k) → both (isNumber i m) (λ _. rowFits names i (byWord nodeKinds (left s (k + 1) to))) ≡ nodeInForm names i (span s from to)
 unfolding nodeInForm
 form-so s from to k names i m y e =
-    ap (λ (z : Maybe ℕ). both (isNumber i z) (λ _. rowFits names i (byWord nodeKinds (left s (k + 1) to)))) e
+    ap (λ (z : Option ℕ). both (isNumber i z) (λ _. rowFits names i (byWord nodeKinds (left s (k + 1) to)))) e
     ∙ ap (nodeLineFits names i) (sym (line-split s from to k y))
 
 numbered : (s : List ℕ) (from to k names i n : ℕ) (m : Num) → Seek s from to 9 k → Number s from k m → m ≡ Is n → n ≡ i → rowFits names i (byWord nodeKinds (left s (k + 1) to)) ≡ nodeInForm names i (span s from to)
@@ -151,7 +152,7 @@ next-last : {A : Type 0} (k : ℕ) (f : List ℕ → List (List ℕ) → Result 
 next-last k f s at m e y l = ap (λ (q : List (List ℕ)). nextLine k q f) (y .last l)
 
 -- a line that is taken
-taken-so : (s : List ℕ) (a at e k : ℕ) → a ≤ at → Seek s at (length s) 10 e → e < length s → taken (takingAt s a at k) (span s at e) (pieces lineFeed (span s (e + 1) (length s))) ≡ takingAt s a (e + 1) (k + 1)
+taken-so : (s : List ℕ) (a at e k : ℕ) → a ≤ at → Seek s at (length s) 10 e → e < length s → takeLine (takingAt s a at k) (span s at e) (pieces lineFeed (span s (e + 1) (length s))) ≡ takingAt s a (e + 1) (k + 1)
 taken-so s a at e k h y l =
     ap₂ {C = Taking} (λ (x : List ℕ) (n : ℕ). record { text = x; line = n; rest = pieces lineFeed (span s (e + 1) (length s)) })
     (ap₂ {C = List ℕ} (λ (x : List ℕ) (n : ℕ). x ++ (n ∷ [])) (sym (span-append s a at e h (y .low))) (sym (found s at (length s) 10 e y l)) ∙ sym (span-snoc s a e (omega (arith, y .low))))
@@ -199,7 +200,7 @@ turn-so s from k names n at line i e a b t inv lt y l q f h =
   where
     node : takeNode names i (takingAt s a at line) ≡ if t (λ _. accepted (takingAt s a (e + 1) (line + 1))) (λ _. refused 11 line)
     node =
-        next-here line (λ l ls. if (nodeInForm names i l) (λ _. accepted (taken (takingAt s a at line) l ls)) (λ _. refused 11 line)) s at (length s) e y l
+        next-here line (λ l ls. if (nodeInForm names i l) (λ _. accepted (takeLine (takingAt s a at line) l ls)) (λ _. refused 11 line)) s at (length s) e y l
         ∙ ap₂ {C = Result Taking} (λ (u : Bool) (d : Taking). if u (λ _. accepted d) (λ _. refused 11 line)) (sym (q .is) ∙ f) (taken-so s a at e line (omega (arith, inv .low)) y l)
 
 module _ {s : List ℕ} {from k names n at line i e : ℕ} (inv : Walking s from k names n at line i) (lt : i < n) (y : Seek s at (length s) 10 e) where
@@ -207,7 +208,7 @@ module _ {s : List ℕ} {from k names n at line i e : ℕ} (inv : Walking s from
   walk-last h = record {
     is = λ a l.
         ap (λ (o : Result Taking). then o (λ (d : Taking). takeNodes names (i + 1) (n - (i + 1)) d))
-        (sym (next-last line (λ l ls. if (nodeInForm names i l) (λ _. accepted (taken (takingAt s a at line) l ls)) (λ _. refused 11 line)) s at (length s) e y h))
+        (sym (next-last line (λ l ls. if (nodeInForm names i l) (λ _. accepted (takeLine (takingAt s a at line) l ls)) (λ _. refused 11 line)) s at (length s) e y h))
         ∙ walk-turn s from k names n at line i a inv lt l;
     goes = tt;
   }
@@ -232,39 +233,36 @@ pub line-room : {s w w′ : List ℕ} {from k at e : ℕ} → Ready s from k w �
 line-room g l y h = record { order = y .low; within = y .high; short = g .short; room = omega (arith, y .high, g .short, g .room) }
 
 -- a root's lines
-same-root : (root : List ℕ) (id sign : ℕ) (m : Maybe (List ℕ)) → id ≡ cell root 0 → sign ≡ cell root 1 → nodesAfter (id ∷ sign ∷ []) m ≡ nodesAfter root m
-same-root root id sign none p q = refl
-same-root root id sign (some x) p q = ap₂ {C = Maybe ℕ} (λ (a b : ℕ). nodesAfter (a ∷ b ∷ []) (some x)) p q
-
-root-so : (s : List ℕ) (from k e names id sign : ℕ) (x : Num) (root : List ℕ) → Seek s from (length s) 10 e → e < length s → After s from e id sign x → id ≡ cell root 0 → sign ≡ cell root 1 → takeAfter names (takingAt s from (e + 1) (k + 1)) (numOf x) k ≡ takeRoot names root (takingAt s from from k)
-root-so s from k e names id sign x root y l a p q =
-    ap₂ {C = Result Taking} (λ (d : Taking) (m : Maybe ℕ). takeAfter names d m k) (sym (taken-so s from from e k (omega arith) y l)) (a .is ∙ same-root root id sign (rowOf headKinds (span s from e)) p q)
-    ∙ sym (next-here k (λ l ls. takeAfter names (taken (takingAt s from from k) l ls) (nodesAfter root (rowOf headKinds l)) k) s from (length s) e y l)
+root-so : (s : List ℕ) (from k e names id sign : ℕ) (x : Num) → Seek s from (length s) 10 e → e < length s → After s from e id sign x
+    → takeAfter names (takingAt s from (e + 1) (k + 1)) (numOf x) k ≡ takeRoot names (asked id sign) (takingAt s from from k)
+root-so s from k e names id sign x y l a =
+    ap₂ {C = Result Taking} (λ (d : Taking) (m : Option ℕ). takeAfter names d m k) (sym (taken-so s from from e k (omega arith) y l)) (a .is)
+    ∙ sym (next-here k (λ l ls. takeAfter names (takeLine (takingAt s from from k) l ls) (nodesAfter (asked id sign) (rowOf headKinds l)) k) s from (length s) e y l)
 
 goes-from : (s : List ℕ) (from at : ℕ) (r : Reached) → from ≤ at → Goes s at r → Goes s from r
 goes-from s from at (AtV p k) h g = (omega (arith, g .0), g .1, g .2)
 goes-from s from at (Fault k) h g = tt
 
 module _ {s : List ℕ} {from k e names id sign : ℕ} (y : Seek s from (length s) 10 e) where
-  pub root-last : e ≡ length s → Root s from k names id sign (Fault k)
+  pub root-last : e ≡ length s → TakesRoot s from k names id sign (Fault k)
   root-last h = record {
-    is = λ root p q. sym (next-last k (λ l ls. takeAfter names (taken (takingAt s from from k) l ls) (nodesAfter root (rowOf headKinds l)) k) s from (length s) e y h);
+    is = sym (next-last k (λ l ls. takeAfter names (takeLine (takingAt s from from k) l ls) (nodesAfter (asked id sign) (rowOf headKinds l)) k) s from (length s) e y h);
     goes = tt;
   }
 
   module _ (h : (e ≡ length s → ⊥)) {x : Num} (a : After s from e id sign x) where
-    pub root-bad : x ≡ No → Root s from k names id sign (Fault k)
+    pub root-bad : x ≡ No → TakesRoot s from k names id sign (Fault k)
     root-bad f = record {
-      is = λ root p q. ap (λ (z : Num). takeAfter names (takingAt s from (e + 1) (k + 1)) (numOf z) k) (sym f) ∙ root-so s from k e names id sign x root y (omega (arith, y .high)) a p q;
+      is = ap (λ (z : Num). takeAfter names (takingAt s from (e + 1) (k + 1)) (numOf z) k) (sym f) ∙ root-so s from k e names id sign x y (omega (arith, y .high)) a;
       goes = tt;
     }
 
-    pub root-good : {n : ℕ} {r : Reached} → x ≡ Is n → Nodes s (e + 1) (k + 1) names n r → Root s from k names id sign r
+    pub root-good : {n : ℕ} {r : Reached} → x ≡ Is n → Nodes s (e + 1) (k + 1) names n r → TakesRoot s from k names id sign r
     root-good {n} {r} f b = record {
-      is = λ root p q.
+      is =
           b .is from (omega (arith, y .low))
           ∙ ap (λ (z : Num). takeAfter names (takingAt s from (e + 1) (k + 1)) (numOf z) k) (sym f)
-          ∙ root-so s from k e names id sign x root y (omega (arith, y .high)) a p q;
+          ∙ root-so s from k e names id sign x y (omega (arith, y .high)) a;
       goes = goes-from s from (e + 1) r (omega (arith, y .low)) (b .goes);
     }
 
@@ -303,7 +301,7 @@ unfolding pieces
 end-here s at k h = ap (λ (l : List ℕ). atEnd k (cut lineFeed [] l)) (span-none s at (length s) h)
 
 -- what a root's lines so far are does not matter for those that follow
-roots-blank : (s : List ℕ) (names a b p k : ℕ) (rs : List (List ℕ)) → takeRoots names rs (takingAt s a p k) ≡ takeRoots names rs (takingAt s b p k)
+roots-blank : (s : List ℕ) (names a b p k : ℕ) (rs : List Root) → takeRoots names rs (takingAt s a p k) ≡ takeRoots names rs (takingAt s b p k)
 roots-blank s names a b p k [] = refl
 roots-blank s names a b p k (r ∷ rs) = refl
 
@@ -316,7 +314,7 @@ then-more (accepted ts) x got = ap (λ (l : List (List ℕ)). accepted l) (sym (
 then-more (refused k l) x got = refl
 
 -- the roots from i on, behind the texts of those before
-abbrev rootsFrom : List ℕ → ℕ → List (List ℕ) → List ℕ → ℕ → ℕ → ℕ → Result (List (List ℕ))
+abbrev rootsFrom : List ℕ → ℕ → List Root → List ℕ → ℕ → ℕ → ℕ → Result (List (List ℕ))
 rootsFrom s names rs spans at line i =
     then (takeRoots names (drop i rs) (takingAt s at at line)) (λ (ts : List (List ℕ)). accepted (run (rootSpan s (set spans i at)) 0 i ++ ts))
 
@@ -325,7 +323,9 @@ pub record Rooting (s : List ℕ) (from names : ℕ) (table : List ℕ) (first n
   pub high : at ≤ length s
   pub early : line ≤ at + 1
   pub kept : length spans ≡ length spans₀
-  pub is : (rs : List (List ℕ)) → RootsAt rs table first n → n < length spans₀ → rootsFrom s names rs spans at line i ≡ takeRoots names rs (takingAt s 0 from 2)
+  pub lies : n < length spans₀ → (k : ℕ) → k < i → cell spans k ≤ length s
+  pub others : (k : ℕ) → n < k → cell spans k ≡ cell spans₀ k
+  pub is : (rs : List Root) → RootsAt rs table first n → n < length spans₀ → rootsFrom s names rs spans at line i ≡ takeRoots names rs (takingAt s 0 from 2)
 
 pub rooting-start : {s w table spans : List ℕ} {from names first n : ℕ} → Ready s from 2 w → Rooting s from names table first n spans spans from 2 0
 rooting-start {s} {w} {table} {spans} {from} {names} h = record {
@@ -333,8 +333,21 @@ rooting-start {s} {w} {table} {spans} {from} {names} h = record {
   high = h .within;
   early = h .early;
   kept = refl;
+  lies = λ l k lt. absurd (not-suc-le-zero lt);
+  others = λ k lt. refl;
   is = λ rs g l. then-same (takeRoots names rs (takingAt s from from 2)) ∙ roots-blank s names from 0 from 2 rs;
 }
+
+-- one more place that lies within s, and others untouched
+set-lies : (spans : List ℕ) (i at m : ℕ) → i < length spans → at ≤ m → ((k : ℕ) → k < i → cell spans k ≤ m) → (k : ℕ) → k ≤ i → cell (set spans i at) k ≤ m
+set-lies spans i at m room h low k le =
+    ⊎-elim
+    (λ (z : k ≡ i). omega (arith, ap (cell (set spans i at)) z, getD-set-same spans i at 0 room))
+    (λ (lt : k < i). omega (arith, getD-set-other spans i k at 0 (omega arith), low k lt))
+    (eq-or-lt-of-le le)
+
+set-others : (spans₀ spans : List ℕ) (i at n : ℕ) → i ≤ n → ((k : ℕ) → n < k → cell spans k ≡ cell spans₀ k) → (k : ℕ) → n < k → cell (set spans i at) k ≡ cell spans₀ k
+set-others spans₀ spans i at n h same k lt = getD-set-other spans i k at 0 (omega arith) ∙ same k lt
 
 -- the texts so far, with one more
 got-more : (s spans : List ℕ) (at q i : ℕ) → i + 1 < length spans → run (rootSpan s (set (set spans i at) (i + 1) q)) 0 (i + 1) ≡ run (rootSpan s (set spans i at)) 0 i ++ (span s at q ∷ [])
@@ -361,28 +374,33 @@ got-more s spans at q i h =
     here = ap₂ {C = List ℕ} (span s) first second
 
 -- root i, and those behind it
-step-so : (s : List ℕ) (names at line i : ℕ) (spans : List ℕ) (rs : List (List ℕ)) (r : Reached) → i < length rs → nextOf s at r ≡ takeRoot names (getD rs i []) (takingAt s at at line) → then (then (nextOf s at r) (λ (d : Taking). then (takeRoots names (drop (i + 1) rs) d) (λ (ts : List (List ℕ)). accepted (d .text ∷ ts)))) (λ (ts : List (List ℕ)). accepted (run (rootSpan s (set spans i at)) 0 i ++ ts)) ≡ rootsFrom s names rs spans at line i
+step-so : (s : List ℕ) (names at line i : ℕ) (spans : List ℕ) (rs : List Root) (r : Reached) → i < length rs → nextOf s at r ≡ takeRoot names (getD rs i (asked 0 0)) (takingAt s at at line) → then (then (nextOf s at r) (λ (d : Taking). then (takeRoots names (drop (i + 1) rs) d) (λ (ts : List (List ℕ)). accepted (d .text ∷ ts)))) (λ (ts : List (List ℕ)). accepted (run (rootSpan s (set spans i at)) 0 i ++ ts)) ≡ rootsFrom s names rs spans at line i
 step-so s names at line i spans rs r l e =
     ap (λ (o : Result Taking). outer (then o (λ (d : Taking). then (takeRoots names (drop (i + 1) rs) d) (λ (ts : List (List ℕ)). accepted (d .text ∷ ts)))))
-    (e ∙ ap (λ (x : List ℕ). takeRoot names (getD rs i []) (record { text = x; line = line; rest = pieces lineFeed (span s at (length s)) })) (span-none s at at (omega arith)))
-    ∙ ap (λ (j : ℕ). outer (takeRoots names (getD rs i [] ∷ drop j rs) (takingAt s at at line))) (add-one i)
-    ∙ ap (λ (l : List (List ℕ)). outer (takeRoots names l (takingAt s at at line))) (sym (drop-cons rs i [] l))
+    (e ∙ ap (λ (x : List ℕ). takeRoot names (getD rs i (asked 0 0)) (record { text = x; line = line; rest = pieces lineFeed (span s at (length s)) })) (span-none s at at (omega arith)))
+    ∙ ap (λ (j : ℕ). outer (takeRoots names (getD rs i (asked 0 0) ∷ drop j rs) (takingAt s at at line))) (add-one i)
+    ∙ ap (λ (l : List Root). outer (takeRoots names l (takingAt s at at line))) (sym (drop-cons rs i (asked 0 0) l))
   where
     outer : Result (List (List ℕ)) → Result (List (List ℕ))
     outer m = then m (λ (ts : List (List ℕ)). accepted (run (rootSpan s (set spans i at)) 0 i ++ ts))
 
-module _ {s table spans₀ spans spans₁ : List ℕ} {from names first n at line i id sign : ℕ} {r : Reached} (inv : Rooting s from names table first n spans₀ spans at line i) (lt : i < n) (st : spans₁ ≡ set spans i at) (a : RootWord table first i 1 id) (b : RootWord table first i 2 sign) (h : Root s at line names id sign r) where
-  root-here : (rs : List (List ℕ)) → RootsAt rs table first n → nextOf s at r ≡ takeRoot names (getD rs i []) (takingAt s at at line)
-  root-here rs g = h .is (getD rs i []) (a .is ∙ g .ids i lt) (b .is ∙ g .signs i lt)
+module _ {s table spans₀ spans spans₁ : List ℕ} {from names first n at line i id sign : ℕ} {r : Reached} (inv : Rooting s from names table first n spans₀ spans at line i) (lt : i < n) (st : spans₁ ≡ set spans i at) (a : RootWord table first i 1 id) (b : RootWord table first i 2 sign) (h : TakesRoot s at line names id sign r) where
+  root-here : (rs : List Root) → RootsAt rs table first n → nextOf s at r ≡ takeRoot names (getD rs i (asked 0 0)) (takingAt s at at line)
+  root-here rs g =
+      h .is ∙ ap (λ (root : Root). takeRoot names root (takingAt s at at line)) (ap₂ {C = Root} asked (a .is) (b .is) ∙ g .is i lt)
 
-  step-here : (rs : List (List ℕ)) → RootsAt rs table first n → n < length spans₀ → (z : Reached) → r ≡ z → then (then (nextOf s at z) (λ (d : Taking). then (takeRoots names (drop (i + 1) rs) d) (λ (ts : List (List ℕ)). accepted (d .text ∷ ts)))) (λ (ts : List (List ℕ)). accepted (run (rootSpan s (set spans i at)) 0 i ++ ts)) ≡ takeRoots names rs (takingAt s 0 from 2)
+  step-here : (rs : List Root) → RootsAt rs table first n → n < length spans₀ → (z : Reached) → r ≡ z → then (then (nextOf s at z) (λ (d : Taking). then (takeRoots names (drop (i + 1) rs) d) (λ (ts : List (List ℕ)). accepted (d .text ∷ ts)))) (λ (ts : List (List ℕ)). accepted (run (rootSpan s (set spans i at)) 0 i ++ ts)) ≡ takeRoots names rs (takingAt s 0 from 2)
   step-here rs g l z e =
       ap (λ (y : Reached). then (then (nextOf s at y) (λ (d : Taking). then (takeRoots names (drop (i + 1) rs) d) (λ (ts : List (List ℕ)). accepted (d .text ∷ ts)))) (λ (ts : List (List ℕ)). accepted (run (rootSpan s (set spans i at)) 0 i ++ ts))) (sym e)
       ∙ step-so s names at line i spans rs r (let c = g .count in omega arith) (root-here rs g)
       ∙ inv .is rs g l
 
   pub rooting-fault : {k : ℕ} → r ≡ Fault k → Roots s from names table first n spans₀ spans₁ (Refused k)
-  rooting-fault {k} e = record { is = λ rs g l. step-here rs g l (Fault k) e }
+  rooting-fault {k} e = record {
+    is = λ rs g l. step-here rs g l (Fault k) e;
+    lies = λ l. tt;
+    kept = λ j m. ap (λ (w : List ℕ). cell w j) st ∙ set-others spans₀ spans i at n (omega arith) (inv .others) j m;
+  }
 
   pub rooting-more : {q k : ℕ} → r ≡ AtV q k → Rooting s from names table first n spans₀ spans₁ q k (i + 1)
   rooting-more {q} {k} e =
@@ -392,6 +410,9 @@ module _ {s table spans₀ spans spans₁ : List ℕ} {from names first n at lin
         high = b .1;
         early = b .2;
         kept = ap length st ∙ length-set spans i at ∙ inv .kept;
+        lies = λ l j m.
+            omega (arith, ap (λ (w : List ℕ). cell w j) st, set-lies spans i at (length s) (omega (arith, inv .kept)) (inv .high) (inv .lies l) j (omega arith));
+        others = λ j m. ap (λ (w : List ℕ). cell w j) st ∙ set-others spans₀ spans i at n (omega arith) (inv .others) j m;
         is = λ rs g l.
             ap₂ {C = Result (List (List ℕ))} (λ (m : Result (List (List ℕ))) (got : List (List ℕ)). then m (λ (ts : List (List ℕ)). accepted (got ++ ts)))
             (roots-blank s names q at q k (drop (i + 1) rs))
@@ -401,50 +422,60 @@ module _ {s table spans₀ spans spans₁ : List ℕ} {from names first n at lin
       }
 
 -- behind the last root
-last-so : (s table spans₀ spans : List ℕ) (from names first n at line i : ℕ) (rs : List (List ℕ)) (o : Result (List (List ℕ))) → Rooting s from names table first n spans₀ spans at line i → n ≤ i → RootsAt rs table first n → n < length spans₀ → atEnd line (pieces lineFeed (span s at (length s))) ≡ o → then o (λ (ts : List (List ℕ)). accepted (run (rootSpan s (set spans n at)) 0 n ++ ts)) ≡ takeRoots names rs (takingAt s 0 from 2)
+last-so : (s table spans₀ spans : List ℕ) (from names first n at line i : ℕ) (rs : List Root) (o : Result (List (List ℕ))) → Rooting s from names table first n spans₀ spans at line i → n ≤ i → RootsAt rs table first n → n < length spans₀ → atEnd line (pieces lineFeed (span s at (length s))) ≡ o → then o (λ (ts : List (List ℕ)). accepted (run (rootSpan s (set spans n at)) 0 n ++ ts)) ≡ takeRoots names rs (takingAt s 0 from 2)
 last-so s table spans₀ spans from names first n at line i rs o inv h g l e =
     ap₂ {C = Result (List (List ℕ))} (λ (m : Result (List (List ℕ))) (j : ℕ). then m (λ (ts : List (List ℕ)). accepted (run (rootSpan s (set spans j at)) 0 j ++ ts)))
-    (sym e ∙ ap (λ (q : List (List ℕ)). takeRoots names q (takingAt s at at line)) (sym (drop-of-length-le rs {i = i} (let c = g .count in omega arith))))
+    (sym e ∙ ap (λ (q : List Root). takeRoots names q (takingAt s at at line)) (sym (drop-of-length-le rs {i = i} (let c = g .count in omega arith))))
     (let z : n ≡ i = omega (arith, inv .few) in z)
     ∙ inv .is rs g l
 
 module _ {s table spans₀ spans spans₁ : List ℕ} {from names first n at line i : ℕ} (inv : Rooting s from names table first n spans₀ spans at line i) (h : n ≤ i) (st : spans₁ ≡ set spans n at) where
+  untouched : (k : ℕ) → n < k → cell spans₁ k ≡ cell spans₀ k
+  untouched k lt = ap (λ (w : List ℕ). cell w k) st ∙ set-others spans₀ spans n at n (omega arith) (inv .others) k lt
+
   pub rooting-surplus : at < length s → Roots s from names table first n spans₀ spans₁ (Refused line)
-  rooting-surplus l = record { is = λ rs g m. last-so s table spans₀ spans from names first n at line i rs (refused 11 line) inv h g m (end-surplus s at line l) }
+  rooting-surplus l = record {
+    is = λ rs g m. last-so s table spans₀ spans from names first n at line i rs (refused 11 line) inv h g m (end-surplus s at line l);
+    lies = λ m. tt;
+    kept = untouched;
+  }
 
   pub rooting-done : length s ≤ at → Roots s from names table first n spans₀ spans₁ InForm
   rooting-done l = record {
     is = λ rs g m.
         ap (λ (q : List (List ℕ)). accepted q) (ap (λ (w : List ℕ). run (rootSpan s w) 0 n) st ∙ sym (append-nil (run (rootSpan s (set spans n at)) 0 n)))
         ∙ last-so s table spans₀ spans from names first n at line i rs (accepted []) inv h g m (end-here s at line l);
+    lies = λ m k le.
+        omega (arith, ap (λ (w : List ℕ). cell w k) st, set-lies spans n at (length s) (omega (arith, inv .kept)) (inv .high) (λ j lt. inv .lies m j (omega arith)) k le);
+    kept = untouched;
   }
 
 pub rooting-ready : {s w w′ table spans₀ spans : List ℕ} {from names first n at line i : ℕ} → Ready s from 2 w → length w′ ≡ length w → Rooting s from names table first n spans₀ spans at line i → Ready s at line w′
 rooting-ready g l inv = record { within = inv .high; short = g .short; early = inv .early; room = omega (arith, g .room) }
 
 -- the whole listing
-abbrev firstLine : ℕ → List (List ℕ) → List ℕ → List (List ℕ) → Result (List (List ℕ))
+abbrev firstLine : ℕ → List Root → List ℕ → List (List ℕ) → Result (List (List ℕ))
 firstLine names rs l ls =
     if (isAnswers (length rs) (rowOf headKinds l)) (λ _. takeRoots names rs (record { text = []; line = 2; rest = ls })) (λ _. refused 11 1)
 
-old-so : (names : ℕ) (rs : List (List ℕ)) (s : List ℕ) → length s ≤ mostText → nextLine 1 (pieces lineFeed (span s 0 (length s))) (firstLine names rs) ≡ oldListing names rs s
+old-so : (names : ℕ) (rs : List Root) (s : List ℕ) → length s ≤ mostText → nextLine 1 (pieces lineFeed (span s 0 (length s))) (firstLine names rs) ≡ oldListing names rs s
 unfolding oldListing
 old-so names rs s h =
     ap (λ (l : List ℕ). nextLine 1 (pieces lineFeed l) (firstLine names rs)) (span-whole s)
     ∙ ap (λ (b : Bool). if b (λ _. refused 11 0) (λ _. nextLine 1 (pieces lineFeed s) (firstLine names rs))) (sym (le-ltb mostText (length s) h))
 
-long-so : (names : ℕ) (rs : List (List ℕ)) (s : List ℕ) → mostText < length s → refused 11 0 ≡ oldListing names rs s
+long-so : (names : ℕ) (rs : List Root) (s : List ℕ) → mostText < length s → refused 11 0 ≡ oldListing names rs s
 unfolding oldListing
 long-so names rs s h = ap (λ (b : Bool). if b (λ _. refused 11 0) (λ _. nextLine 1 (pieces lineFeed s) (firstLine names rs))) (sym (lt-ltb mostText (length s) h))
 
-module _ {s table spans w spans′ : List ℕ} {names first n : ℕ} where
-  pub old-long : mostText < length s → Read s names table first n spans w spans′ (Refused 0)
-  old-long h = record { is = λ rs g l m. long-so names rs s h }
+module _ {s table spans w : List ℕ} {names first n : ℕ} where
+  pub old-long : mostText < length s → Read s names table first n spans w spans (Refused 0)
+  old-long h = record { is = λ rs g l m. long-so names rs s h; lies = λ l. tt; kept = λ k lt. refl }
 
-  pub old-poor : length w < lineLength → Read s names table first n spans w spans′ (Refused 0)
-  old-poor h = record { is = λ rs g l m. absurd (let z : ⊥ = omega arith in z) }
+  pub old-poor : length w < lineLength → Read s names table first n spans w spans (Refused 0)
+  old-poor h = record { is = λ rs g l m. absurd (let z : ⊥ = omega arith in z); lies = λ l. tt; kept = λ k lt. refl }
 
-first-so : (s : List ℕ) (names n e : ℕ) (rs : List (List ℕ)) (b t : Bool) → length s ≤ mostText → Seek s 0 (length s) 10 e → e < length s → IsAnswers s 0 e n b → b ≡ t → length rs ≡ n → if t (λ _. takeRoots names rs (takingAt s 0 (e + 1) 2)) (λ _. refused 11 1) ≡ oldListing names rs s
+first-so : (s : List ℕ) (names n e : ℕ) (rs : List Root) (b t : Bool) → length s ≤ mostText → Seek s 0 (length s) 10 e → e < length s → IsAnswers s 0 e n b → b ≡ t → length rs ≡ n → if t (λ _. takeRoots names rs (takingAt s 0 (e + 1) 2)) (λ _. refused 11 1) ≡ oldListing names rs s
 first-so s names n e rs b t h y l a f c =
     ap₂ {C = Result (List (List ℕ))} (λ (u : Bool) (o : Result (List (List ℕ))). if u (λ _. o) (λ _. refused 11 1))
     (sym f ∙ a .is ∙ ap (λ (m : ℕ). isAnswers m (rowOf headKinds (span s 0 e))) (sym c))
@@ -452,17 +483,29 @@ first-so s names n e rs b t h y l a f c =
     ∙ sym (next-here 1 (firstLine names rs) s 0 (length s) e y l)
     ∙ old-so names rs s h
   where
-    blank-so : (rs : List (List ℕ)) → takeRoots names rs (takingAt s 0 (e + 1) 2) ≡ takeRoots names rs (record { text = []; line = 2; rest = pieces lineFeed (span s (e + 1) (length s)) })
+    blank-so : (rs : List Root) → takeRoots names rs (takingAt s 0 (e + 1) 2) ≡ takeRoots names rs (record { text = []; line = 2; rest = pieces lineFeed (span s (e + 1) (length s)) })
     blank-so [] = refl
     blank-so (r ∷ rs) = refl
 
-module _ {s table spans w spans′ : List ℕ} {names first n e : ℕ} (h : length s ≤ mostText) (y : Seek s 0 (length s) 10 e) where
-  pub old-none : e ≡ length s → Read s names table first n spans w spans′ (Refused 1)
-  old-none d = record { is = λ rs g l m. sym (next-last 1 (firstLine names rs) s 0 (length s) e y d) ∙ old-so names rs s h }
+module _ {s table spans w : List ℕ} {names first n e : ℕ} (h : length s ≤ mostText) (y : Seek s 0 (length s) 10 e) where
+  pub old-none : e ≡ length s → Read s names table first n spans w spans (Refused 1)
+  old-none d = record {
+    is = λ rs g l m. sym (next-last 1 (firstLine names rs) s 0 (length s) e y d) ∙ old-so names rs s h;
+    lies = λ l. tt;
+    kept = λ k lt. refl;
+  }
 
   module _ (d : (e ≡ length s → ⊥)) {b : Bool} (a : IsAnswers s 0 e n b) where
-    pub old-other : not b ≡ true → Read s names table first n spans w spans′ (Refused 1)
-    old-other f = record { is = λ rs g l m. first-so s names n e rs b false h y (omega (arith, y .high)) a (not-true b f) (g .count) }
+    pub old-other : not b ≡ true → Read s names table first n spans w spans (Refused 1)
+    old-other f = record {
+      is = λ rs g l m. first-so s names n e rs b false h y (omega (arith, y .high)) a (not-true b f) (g .count);
+      lies = λ l. tt;
+      kept = λ k lt. refl;
+    }
 
-    pub old-roots : {r : Old} → not b ≡ false → Roots s (e + 1) names table first n spans spans′ r → Read s names table first n spans w spans′ r
-    old-roots f q = record { is = λ rs g l m. q .is rs g l ∙ first-so s names n e rs b true h y (omega (arith, y .high)) a (not-false b f) (g .count) }
+    pub old-roots : {spans′ : List ℕ} {r : Old} → not b ≡ false → Roots s (e + 1) names table first n spans spans′ r → Read s names table first n spans w spans′ r
+    old-roots f q = record {
+      is = λ rs g l m. q .is rs g l ∙ first-so s names n e rs b true h y (omega (arith, y .high)) a (not-false b f) (g .count);
+      lies = q .lies;
+      kept = q .kept;
+    }

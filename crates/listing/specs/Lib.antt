@@ -1,2 +1,4 @@
 pub mod Writes
+pub mod Walks
+pub mod Printed
 pub mod Olds

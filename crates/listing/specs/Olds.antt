@@ -2,23 +2,25 @@
 use mathlib.Core.Path.{_≡_}
 use mathlib.Core.Bool.{Bool}
 use Prim.Native.Nat.{ℕ, _+_, _≤_, _<_}
-use mathlib.Core.List.{List, [], _∷_}
+use mathlib.Core.List.{List}
 use lib.ListN.{length, getD}
 use lib.Dec.{leb}
 use Rattle.cells.specs.Part.{cell, part, run}
 use Rattle.layout.specs.Layout.{lineLength}
 use Rattle.rules.specs.Ceilings.{mostText, mostMembers}
-use Rattle.rules.specs.Plain.{some, both}
+use Rattle.rules.specs.Plain.{both}
 use Rattle.rules.specs.Text.{lineFeed, pieces, rowOf}
-use Rattle.rules.specs.Table.{Result, accepted, refused, allBelow, attrAt}
+use Rattle.rules.specs.Table.{Root, Result, accepted, refused, allBelow, attrAt}
 use Rattle.rules.specs.Types.{AttrSet}
-use Rattle.rules.specs.Listing.{headKinds, nodeOf, nodeFits, nodeInForm, Taking, takeNodes, within, forRoot, nodesAfter, takeRoot, takeRoots, isAnswers, oldListing}
+use Rattle.rules.specs.Listing.{headKinds, nodeOf, nodeFits, nodeInForm, Taking, takeNodes, within, forRoot, nodesAfter, takeRoot, takeRoots}
+use Rattle.rules.specs.Listing.{isAnswers, oldListing}
 use Rattle.text.specs.declared.Num.{Num}
 use Rattle.text.specs.Reads.{span, numOf}
 use Rattle.listing.specs.declared.old.Old.{Old}
 use Rattle.listing.specs.declared.old.Old.the-variants.{InForm, Refused}
 use Rattle.listing.specs.declared.old.Reached.{Reached}
 use Rattle.listing.specs.declared.old.Reached.the-variants.{At, Fault}
+use mathlib.Core.Option.{some}
 
 -- a row that ends at to
 abbrev pub row : List ℕ → ℕ → List ℕ
@@ -62,24 +64,26 @@ pub record Nodes (s : List ℕ) (from k names n : ℕ) (r : Reached) : Type 0 wh
 pub record Within (a b x : ℕ) (r : Bool) : Type 0 where
   pub is : r ≡ within a b x
 
+abbrev pub asked : ℕ → ℕ → Root
+asked id sign = record { id = id; sign = sign }
+
 pub record ForRoot (w : List ℕ) (to id sign : ℕ) (r : Bool) : Type 0 where
-  pub is : r ≡ forRoot (id ∷ sign ∷ []) (row w to)
+  pub is : r ≡ forRoot (asked id sign) (row w to)
 
 pub record Count (w : List ℕ) (to id sign : ℕ) (r : Num) : Type 0 where
-  pub is : numOf r ≡ nodesAfter (id ∷ sign ∷ []) (some (row w to))
+  pub is : numOf r ≡ nodesAfter (asked id sign) (some (row w to))
 
 pub record After (s : List ℕ) (from to id sign : ℕ) (r : Num) : Type 0 where
-  pub is : numOf r ≡ nodesAfter (id ∷ sign ∷ []) (rowOf headKinds (span s from to))
+  pub is : numOf r ≡ nodesAfter (asked id sign) (rowOf headKinds (span s from to))
 
-pub record Root (s : List ℕ) (from k names id sign : ℕ) (r : Reached) : Type 0 where
-  pub is : (root : List ℕ) → id ≡ cell root 0 → sign ≡ cell root 1 → nextOf s from r ≡ takeRoot names root (takingAt s from from k)
+pub record TakesRoot (s : List ℕ) (from k names id sign : ℕ) (r : Reached) : Type 0 where
+  pub is : nextOf s from r ≡ takeRoot names (asked id sign) (takingAt s from from k)
   pub goes : Goes s from r
 
 -- the roots rs are those of the rows that begin where the cells from first on tell
-pub record RootsAt (rs : List (List ℕ)) (table : List ℕ) (first n : ℕ) : Type 0 where
+pub record RootsAt (rs : List Root) (table : List ℕ) (first n : ℕ) : Type 0 where
   pub count : length rs ≡ n
-  pub ids : (i : ℕ) → i < n → cell table (cell table (first + i) + 1) ≡ cell (getD rs i []) 0
-  pub signs : (i : ℕ) → i < n → cell table (cell table (first + i) + 2) ≡ cell (getD rs i []) 1
+  pub is : (i : ℕ) → i < n → asked (cell table (cell table (first + i) + 1)) (cell table (cell table (first + i) + 2)) ≡ getD rs i (asked 0 0)
 
 pub record RootWord (table : List ℕ) (first i k r : ℕ) : Type 0 where
   pub is : r ≡ cell table (cell table (first + i) + k)
@@ -92,12 +96,22 @@ abbrev pub oldOf : Old → List ℕ → List ℕ → ℕ → Result (List (List 
 oldOf InForm s spans n = accepted (run (rootSpan s spans) 0 n)
 oldOf (Refused k) s spans n = refused 11 k
 
+-- in form, the texts lie within s
+abbrev pub Lies : Old → List ℕ → List ℕ → ℕ → Type 0
+Lies InForm s spans n = (k : ℕ) → k ≤ n → cell spans k ≤ length s
+Lies (Refused k) s spans n = Unit {0}
+
 pub record Roots (s : List ℕ) (from names : ℕ) (table : List ℕ) (first n : ℕ) (spans spans′ : List ℕ) (r : Old) : Type 0 where
-  pub is : (rs : List (List ℕ)) → RootsAt rs table first n → n < length spans → oldOf r s spans′ n ≡ takeRoots names rs (takingAt s 0 from 2)
+  pub is : (rs : List Root) → RootsAt rs table first n → n < length spans → oldOf r s spans′ n ≡ takeRoots names rs (takingAt s 0 from 2)
+  pub lies : n < length spans → Lies r s spans′ n
+  pub kept : (k : ℕ) → n < k → cell spans′ k ≡ cell spans k
 
 pub record IsAnswers (s : List ℕ) (from to n : ℕ) (r : Bool) : Type 0 where
   pub is : r ≡ isAnswers n (rowOf headKinds (span s from to))
 
--- an old listing read: where the spans and the words are long enough, the answer with the spans is what the rules say
+-- an old listing read: where the spans and the words are long enough, the answer with the spans is what the rules say. What stood behind the
+-- spans stands there still
 pub record Read (s : List ℕ) (names : ℕ) (table : List ℕ) (first n : ℕ) (spans w spans′ : List ℕ) (r : Old) : Type 0 where
-  pub is : (rs : List (List ℕ)) → RootsAt rs table first n → n < length spans → lineLength ≤ length w → oldOf r s spans′ n ≡ oldListing names rs s
+  pub is : (rs : List Root) → RootsAt rs table first n → n < length spans → lineLength ≤ length w → oldOf r s spans′ n ≡ oldListing names rs s
+  pub lies : n < length spans → Lies r s spans′ n
+  pub kept : (k : ℕ) → n < k → cell spans′ k ≡ cell spans k

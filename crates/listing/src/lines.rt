@@ -12,6 +12,15 @@ use lang_ty::arena::OutputTy;
 use lang_ty::arena;
 use lang_ty::attrset;
 use lang_ty::disjoint::set_place;
+ghost use mathlib.Core.Path.{_≡_};
+ghost use mathlib.Core.List.{[], _∷_};
+ghost use Rattle.rules.specs.Plain.{ascii, flag};
+ghost use Rattle.rules.specs.Text.{tab, dash, decimal, lineText};
+ghost use Rattle.rules.specs.Canonicalizer.{refusedWith};
+ghost use Rattle.rules.specs.Listing.{answersText, answerText};
+ghost use Rattle.listing.specs.Writes.{Wrote};
+ghost use Rattle.listing.specs.Printed.{tabbed, countTexts, headLine, partedBy, numbered, WroteList, WroteFields, WroteSet, WroteContents};
+ghost use Rattle.listing.specs.Printed.{WroteKeyword, WroteNode, WroteNodes, WroteRoot};
 
 // What a root's line says, and the root's node.
 pub struct Head {
@@ -23,14 +32,18 @@ pub struct Head {
 }
 
 // `answers`, root count.
-pub fn answers(out: &mut [u8], at: u32, roots: u32) -> u32 {
+pub fn answers(out: &mut [u8], at: u32, roots: u32) -> u32
+    ensures { λ r. ⌜ Wrote (answersText roots) at (now (out .entry)) (now (out .exit)) r ⌝ }
+{
     let p = word(out, at, b"answers");
     let p = number_field(out, p, roots);
     byte(out, p, 10)
 }
 
 // `refused`, number, line.
-pub fn refused_call(out: &mut [u8], at: u32, number: u32, line: u32) -> u32 {
+pub fn refused_call(out: &mut [u8], at: u32, number: u32, line: u32) -> u32
+    ensures { λ r. ⌜ Wrote (lineText (ascii "refused" ∷ decimal number ∷ decimal line ∷ [])) at (now (out .entry)) (now (out .exit)) r ⌝ }
+{
     let p = word(out, at, b"refused");
     let p = number_field(out, p, number);
     let p = number_field(out, p, line);
@@ -38,7 +51,9 @@ pub fn refused_call(out: &mut [u8], at: u32, number: u32, line: u32) -> u32 {
 }
 
 // `refused`, id, sign, number.
-pub fn refused_root(out: &mut [u8], at: u32, id: u32, sign: u32, number: u32) -> u32 {
+pub fn refused_root(out: &mut [u8], at: u32, id: u32, sign: u32, number: u32) -> u32
+    ensures { λ r. ⌜ Wrote (answerText id sign (refusedWith number)) at (now (out .entry)) (now (out .exit)) r ⌝ }
+{
     let p = word(out, at, b"refused");
     let p = number_field(out, p, id);
     let p = sign_field(out, p, sign);
@@ -46,12 +61,16 @@ pub fn refused_root(out: &mut [u8], at: u32, id: u32, sign: u32, number: u32) ->
     byte(out, p, 10)
 }
 
-fn flag(b: bool) -> u32 {
+fn flag(b: bool) -> u32
+    ensures { λ r. ⌜ r ≡ flag b ⌝ }
+{
     if b { 1 } else { 0 }
 }
 
 // Passes, operations, sorted, bailed, node count.
-fn counts(out: &mut [u8], at: u32, s: Head, n: u32) -> u32 {
+fn counts(out: &mut [u8], at: u32, s: Head, n: u32) -> u32
+    ensures { λ r. ⌜ Wrote (tabbed (countTexts s n)) at (now (out .entry)) (now (out .exit)) r ⌝ }
+{
     let p = number_field(out, at, s.passes);
     let p = number_field(out, p, s.ops);
     let p = number_field(out, p, flag(s.sorted));
@@ -60,7 +79,9 @@ fn counts(out: &mut [u8], at: u32, s: Head, n: u32) -> u32 {
 }
 
 // `root`, id, sign, and the counts.
-fn root_line(out: &mut [u8], at: u32, id: u32, sign: u32, s: Head, n: u32) -> u32 {
+fn root_line(out: &mut [u8], at: u32, id: u32, sign: u32, s: Head, n: u32) -> u32
+    ensures { λ r. ⌜ Wrote (headLine id sign s n) at (now (out .entry)) (now (out .exit)) r ⌝ }
+{
     let p = word(out, at, b"root");
     let p = number_field(out, p, id);
     let p = sign_field(out, p, sign);
@@ -69,7 +90,9 @@ fn root_line(out: &mut [u8], at: u32, id: u32, sign: u32, s: Head, n: u32) -> u3
 }
 
 // Before element i of a list: a tab, or the comma that parts it from the one before.
-fn before(out: &mut [u8], at: u32, i: u32) -> u32 {
+fn before(out: &mut [u8], at: u32, i: u32) -> u32
+    ensures { λ r. ⌜ Wrote (partedBy i ∷ []) at (now (out .entry)) (now (out .exit)) r ⌝ }
+{
     if i == 0 {
         return byte(out, at, 9);
     }
@@ -77,12 +100,16 @@ fn before(out: &mut [u8], at: u32, i: u32) -> u32 {
 }
 
 // A tab and `-`, an empty list.
-fn no_list(out: &mut [u8], at: u32) -> u32 {
+fn no_list(out: &mut [u8], at: u32) -> u32
+    ensures { λ r. ⌜ Wrote (tab ∷ dash) at (now (out .entry)) (now (out .exit)) r ⌝ }
+{
     word(out, at, b"\x09-")
 }
 
 // A tab and the n nodes from a on, by their numbers.
-fn node_list(words: &[u32], work: &[u32], out: &mut [u8], at: u32, a: u32, n: u32) -> u32 {
+fn node_list(out: &mut [u8], words: &[u32], work: &[u32], at: u32, a: u32, n: u32) -> u32
+    ensures { λ r. ⌜ WroteList (numbered (now (work .entry))) (now (words .entry)) a n at (now (out .entry)) (now (out .exit)) r ⌝ }
+{
     if n == 0 {
         return no_list(out, at);
     }
@@ -97,7 +124,9 @@ fn node_list(words: &[u32], work: &[u32], out: &mut [u8], at: u32, a: u32, n: u3
 }
 
 // A tab and the n keys from a on.
-fn key_list(words: &[u32], out: &mut [u8], at: u32, a: u32, n: u32) -> u32 {
+fn key_list(out: &mut [u8], words: &[u32], at: u32, a: u32, n: u32) -> u32
+    ensures { λ r. ⌜ WroteList decimal (now (words .entry)) a n at (now (out .entry)) (now (out .exit)) r ⌝ }
+{
     if n == 0 {
         return no_list(out, at);
     }
@@ -112,7 +141,9 @@ fn key_list(words: &[u32], out: &mut [u8], at: u32, a: u32, n: u32) -> u32 {
 }
 
 // A tab and the fields of the set at a, a key and a node each.
-fn field_list(words: &[u32], work: &[u32], out: &mut [u8], at: u32, a: u32) -> u32 {
+fn field_list(out: &mut [u8], words: &[u32], work: &[u32], at: u32, a: u32) -> u32
+    ensures { λ r. ⌜ WroteFields (now (words .entry)) (now (work .entry)) a at (now (out .entry)) (now (out .exit)) r ⌝ }
+{
     let n = attrset::fields(words, a);
     if n == 0 {
         return no_list(out, at);
@@ -130,50 +161,67 @@ fn field_list(words: &[u32], work: &[u32], out: &mut [u8], at: u32, a: u32) -> u
 }
 
 // Fields, dyn, open and optional keys of the set at a.
-fn set_contents(words: &[u32], work: &[u32], out: &mut [u8], at: u32, a: u32) -> u32 {
-    let p = field_list(words, work, out, at, a);
+fn set_contents(out: &mut [u8], words: &[u32], work: &[u32], at: u32, a: u32) -> u32
+    ensures { λ r. ⌜ WroteSet (now (words .entry)) (now (work .entry)) a at (now (out .entry)) (now (out .exit)) r ⌝ }
+{
+    let p = field_list(out, words, work, at, a);
     let d = attrset::dyn_place(words, a);
-    let p = node_list(words, work, out, p, add(d, 1), attrset::dyns(words, a));
+    let p = node_list(out, words, work, p, add(d, 1), attrset::dyns(words, a));
     let p = number_field(out, p, attrset::open(words, a));
     let o = attrset::open_place(words, a);
-    key_list(words, out, p, add(o, 2), attrset::optionals(words, a))
+    key_list(out, words, p, add(o, 2), attrset::optionals(words, a))
 }
 
 // A tab and node y, by its number.
-fn node_field(work: &[u32], out: &mut [u8], at: u32, y: u32) -> u32 {
+fn node_field(out: &mut [u8], work: &[u32], at: u32, y: u32) -> u32
+    ensures { λ r. ⌜ Wrote (tab ∷ numbered (now (work .entry)) y) at (now (out .entry)) (now (out .exit)) r ⌝ }
+{
     number_field(out, at, walk::number(work, y))
 }
 
 // What stands behind the keyword of node x.
-fn contents(arena: &[u32], work: &[u32], out: &mut [u8], at: u32, x: u32) -> u32 {
+fn contents(out: &mut [u8], arena: &[u32], work: &[u32], at: u32, x: u32) -> u32
+    ensures { λ r. ⌜ WroteContents (now (arena .entry)) (now (work .entry)) x at (now (out .entry)) (now (out .exit)) r ⌝ }
+{
     let k = arena::kind(arena, x);
     let a = arena::word(arena, x, 1);
     let b = arena::word(arena, x, 2);
-    if k == OutputTy::TY_VAR || k == OutputTy::PRIMITIVE {
+    if k == OutputTy::TY_VAR {
         return number_field(out, at, a);
     }
-    if k == OutputTy::LIST || k == OutputTy::NEG {
-        return node_field(work, out, at, a);
+    if k == OutputTy::PRIMITIVE {
+        return number_field(out, at, a);
+    }
+    if k == OutputTy::LIST {
+        return node_field(out, work, at, a);
+    }
+    if k == OutputTy::NEG {
+        return node_field(out, work, at, a);
     }
     if k == OutputTy::LAMBDA {
-        let p = node_field(work, out, at, a);
-        return node_field(work, out, p, b);
+        let p = node_field(out, work, at, a);
+        return node_field(out, work, p, b);
     }
     if k == OutputTy::NAMED {
         let p = number_field(out, at, a);
-        return node_field(work, out, p, b);
+        return node_field(out, work, p, b);
     }
     if k == OutputTy::ATTR_SET {
-        return set_contents(arena, work, out, at, set_place(arena, x));
+        return set_contents(out, arena, work, at, set_place(arena, x));
     }
-    if k == OutputTy::UNION || k == OutputTy::INTERSECTION {
-        return node_list(arena, work, out, at, add(cells::at(arena, x), 2), a);
+    if k == OutputTy::UNION {
+        return node_list(out, arena, work, at, add(cells::at(arena, x), 2), a);
+    }
+    if k == OutputTy::INTERSECTION {
+        return node_list(out, arena, work, at, add(cells::at(arena, x), 2), a);
     }
     at
 }
 
 // The keyword of a kind from 6 on.
-fn keyword_from_6(out: &mut [u8], at: u32, kind: u32) -> u32 {
+fn keyword_from_6(out: &mut [u8], at: u32, kind: u32) -> u32
+    ensures { λ r. ⌜ WroteKeyword 6 kind at (now (out .entry)) (now (out .exit)) r ⌝ }
+{
     if kind == OutputTy::INTERSECTION {
         return word(out, at, b"inter");
     }
@@ -189,7 +237,9 @@ fn keyword_from_6(out: &mut [u8], at: u32, kind: u32) -> u32 {
     word(out, at, b"top")
 }
 
-fn keyword(out: &mut [u8], at: u32, kind: u32) -> u32 {
+fn keyword(out: &mut [u8], at: u32, kind: u32) -> u32
+    ensures { λ r. ⌜ WroteKeyword 0 kind at (now (out .entry)) (now (out .exit)) r ⌝ }
+{
     if kind == OutputTy::TY_VAR {
         return word(out, at, b"tyvar");
     }
@@ -212,20 +262,24 @@ fn keyword(out: &mut [u8], at: u32, kind: u32) -> u32 {
 }
 
 // The line of node k of the listing: number, kind, contents.
-fn node_line(arena: &[u32], work: &[u32], out: &mut [u8], at: u32, k: u32) -> u32 {
+fn node_line(out: &mut [u8], arena: &[u32], work: &[u32], at: u32, k: u32) -> u32
+    ensures { λ r. ⌜ WroteNode (now (arena .entry)) (now (work .entry)) k at (now (out .entry)) (now (out .exit)) r ⌝ }
+{
     let x = walk::node(work, k);
     let p = decimal(out, at, k);
     let p = byte(out, p, 9);
     let p = keyword(out, p, arena::kind(arena, x));
-    let p = contents(arena, work, out, p, x);
+    let p = contents(out, arena, work, p, x);
     byte(out, p, 10)
 }
 
-fn node_lines(arena: &[u32], work: &[u32], out: &mut [u8], at: u32, n: u32) -> u32 {
+fn node_lines(out: &mut [u8], arena: &[u32], work: &[u32], at: u32, n: u32) -> u32
+    ensures { λ r. ⌜ WroteNodes (now (arena .entry)) (now (work .entry)) n at (now (out .entry)) (now (out .exit)) r ⌝ }
+{
     let mut p = at;
     let mut k = 0;
     while k < n {
-        p = node_line(arena, work, out, p, k);
+        p = node_line(out, arena, work, p, k);
         k += 1;
     }
     p
@@ -233,15 +287,17 @@ fn node_lines(arena: &[u32], work: &[u32], out: &mut [u8], at: u32, n: u32) -> u
 
 // The lines of a root that is not refused, with its nodes, children first. The first 12,288 cells of work may be used.
 pub fn root_lines(
+    out: &mut [u8],
     arena: &[u32],
     work: &mut [u32],
-    out: &mut [u8],
     at: u32,
     id: u32,
     sign: u32,
     s: Head,
-) -> u32 {
+) -> u32
+    ensures { λ r. ⌜ WroteRoot (now (arena .entry)) (now (work .entry)) id sign s at (now (out .entry)) (now (out .exit)) r ⌝ }
+{
     let n = walk::walk(arena, work, s.node);
     let p = root_line(out, at, id, sign, s, n);
-    node_lines(arena, work, out, p, n)
+    node_lines(out, arena, work, p, n)
 }

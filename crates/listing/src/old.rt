@@ -13,7 +13,7 @@ ghost use lib.ListN.{drop};
 ghost use Rattle.rules.specs.Types.{nodeKinds};
 ghost use Rattle.rules.specs.Listing.{headKinds};
 ghost use Rattle.text.specs.Reads.{FieldRoom, KindRoom, Kinded, Row};
-ghost use Rattle.listing.specs.Olds.{SetFits, MembersFit, NodeFits, NodeLine, Ready, Nodes, Within, ForRoot, Count, After, Root, RootWord, Roots, IsAnswers, Read};
+ghost use Rattle.listing.specs.Olds.{SetFits, MembersFit, NodeFits, NodeLine, Ready, Nodes, Within, ForRoot, Count, After, TakesRoot, RootWord, Roots, IsAnswers, Read};
 
 pub enum Old {
     InForm,
@@ -271,7 +271,7 @@ fn nodes_after(s: &[u8], from: usize, to: usize, words: &mut [u32], id: u32, sig
 // The lines of a root, from line k on.
 fn root(s: &[u8], from: usize, k: u32, words: &mut [u32], names: u32, id: u32, sign: u32) -> Reached
     requires { ⌜ Ready (now s) from k (now words) ⌝ }
-    ensures { λ r. ⌜ Root (now (s .entry)) from k names id sign r ⌝ }
+    ensures { λ r. ⌜ TakesRoot (now (s .entry)) from k names id sign r ⌝ }
 {
     let m = s.len();
     let e = text::seek(s, from, m, 10);
@@ -295,13 +295,13 @@ fn root_word(table: &[u32], first: u32, i: u32, k: u32) -> u32
 // The lines of all roots, from line 2 on, and nothing behind them.
 fn roots_from(
     s: &[u8],
+    spans: &mut [u32],
+    table: &[u32],
+    words: &mut [u32],
     from: usize,
     names: u32,
-    table: &[u32],
     first: u32,
     roots: u32,
-    spans: &mut [u32],
-    words: &mut [u32],
 ) -> Old
     requires { ⌜ Ready (now s) from 2 (now words) ⌝ }
     ensures { λ r. ⌜ Roots (now (s .entry)) from names (now (table .entry)) first roots (now (spans .entry)) (now (spans .exit)) r ⌝ }
@@ -349,12 +349,12 @@ fn is_answers(s: &[u8], from: usize, to: usize, words: &mut [u32], roots: u32) -
 // those from spans[i] to spans[i + 1]. The words are ArenaSlice::LINE at least, and the spans one more than the roots.
 pub fn read_old(
     text: &[u8],
-    names: u32,
+    spans: &mut [u32],
     table: &[u32],
+    words: &mut [u32],
+    names: u32,
     first: u32,
     roots: u32,
-    spans: &mut [u32],
-    words: &mut [u32],
 ) -> Old
     ensures { λ r. ⌜ Read (now (text .entry)) names (now (table .entry)) first roots (now (spans .entry)) (now (words .entry)) (now (spans .exit)) r ⌝ }
 {
@@ -372,5 +372,5 @@ pub fn read_old(
     if !is_answers(text, 0, e, words, roots) {
         return Old::Refused(1);
     }
-    roots_from(text, e + 1, names, table, first, roots, spans, words)
+    roots_from(text, spans, table, words, e + 1, names, first, roots)
 }

@@ -1,10 +1,10 @@
 // Text into a lent slice: a byte is put where the slice reaches, and the position goes on past its end.
+use cells::add;
 ghost use mathlib.Core.Path.{_≡_};
-ghost use Prim.Native.Nat.{_+_};
-ghost use mathlib.Core.List.{[], _∷_, _++_};
+ghost use mathlib.Core.List.{[], _∷_};
 ghost use lib.ListN.{set};
 ghost use Rattle.rules.specs.Text.{tab, decimal, fieldText, aSign};
-ghost use Rattle.listing.specs.Writes.{capped, Wrote};
+ghost use Rattle.listing.specs.Writes.{Wrote};
 
 fn put(out: &mut [u8], i: usize, b: u8)
     ensures { λ _. ⌜ now (out .exit) ≡ set (now (out .entry)) i b ⌝ }
@@ -14,18 +14,12 @@ fn put(out: &mut [u8], i: usize, b: u8)
     }
 }
 
-// The position after at; the greatest number is its own.
-fn after(at: u32) -> u32
-    ensures { λ r. ⌜ r ≡ capped (at + 1) ⌝ }
-{
-    if at < 4294967295 { at + 1 } else { at }
-}
-
+// The position after it; the greatest number is its own.
 pub fn byte(out: &mut [u8], at: u32, b: u8) -> u32
     ensures { λ r. ⌜ Wrote (b ∷ []) at (now (out .entry)) (now (out .exit)) r ⌝ }
 {
     put(out, at as usize, b);
-    after(at)
+    add(at, 1)
 }
 
 // The bytes of w.

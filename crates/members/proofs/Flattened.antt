@@ -11,7 +11,7 @@ use lib.ListN.{length, getD, take, set, replicate, length-set, length-append, le
 use lib.Seq.{take-suc, take-all}
 use lib.Dec.{ltb}
 use borrow.Author.Tests.{le-ltb, lt-ltb}
-use Rattle.cells.specs.Part.{cell, part, if, Under}
+use Rattle.cells.specs.Part.{cell, part, if}
 use Rattle.rules.specs.Ceilings.{mostMembers}
 use Rattle.rules.specs.Plain.{any, contains, addNew, both}
 use Rattle.rules.specs.Types.{Node, TyVar, Primitive, ListOf, Lambda, AttrSet, Union, Intersection, Named, Neg, Bottom, Top, members, children, nodeAt, is}
@@ -21,8 +21,9 @@ use Rattle.lang_ty.specs.Nodes.{Arena, Is, Count, Member}
 use Rattle.members.specs.declared.lists.Members.{Members}
 use Rattle.members.specs.Lists.{Few, Lists, Taken, Tests, Contains, anyOfKind}
 use Rattle.members.specs.Flattens.{Collected, AddsNew, AddsMembers, FlattensOne, Listing, Spreads, flattenAll}
-use Rattle.rules.proofs.Filtering.{under-both, under-most}
+use Rattle.laws.proofs.Filtering.{under-both, under-most}
 use Rattle.members.proofs.Gathered.{listOf, few-lists, few-at, few-below, gathered-more, gathered-few}
+use Rattle.cells.specs.Placed.{Under}
 
 -- laws of collecting
 new-length : (b : Bool) (xs : List ℕ) (x : ℕ) → length xs ≤ length (if b (λ _. xs) (λ _. xs ++ (x ∷ [])))

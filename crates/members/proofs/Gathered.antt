@@ -11,7 +11,7 @@ use lib.ListN.{length, getD, take, drop, set, replicate, length-set, length-appe
 use lib.Seq.{getD-set-same, getD-set-other, take-all, length-take-le}
 use lib.Dec.{eqb}
 use borrow.Author.Tests.{eq-eqb, ne-eqb, le-ltb, lt-ltb}
-use Rattle.cells.specs.Part.{cell, part, Holds}
+use Rattle.cells.specs.Part.{cell, part}
 use Rattle.cells.specs.Sum.{Sum}
 use Rattle.cells.proofs.Parts.{run-length, run-getD, run-snoc}
 use Rattle.cells.proofs.Holding.{holds-none, holds-place, holds-cons, holds-both, holds-ext, holds-at, holds-head, holds-list}
@@ -19,12 +19,12 @@ use Rattle.rules.specs.Ceilings.{mostMembers}
 use Rattle.rules.specs.Plain.{any, filter, both}
 use Rattle.rules.specs.Types.{Node, TyVar, Primitive, ListOf, Lambda, AttrSet, Union, Intersection, Named, Neg, Bottom, Top, State, Out, ok, no, bind, give, store, is, kindOf, nodeAt, encode}
 use Rattle.rules.specs.Members.{sole, isPositive, isConcrete}
-use Rattle.rules.specs.Run.{dropsNode}
-use Rattle.rules.specs.Run as rules
-use Rattle.rules.proofs.Rows.{node-of, by-kind}
+use Rattle.rules.specs.Canonicalizer.{dropsNode}
+use Rattle.rules.specs.Canonicalizer as rules
+use Rattle.laws.proofs.Rows.{node-of, by-kind}
 use Rattle.lang_ty.specs.Shapes.{Constructor}
 use Rattle.lang_ty.proofs.Words.{word-of}
-use Rattle.rules.proofs.Filtering.{kept, filter-take, filter-length, filter-under, under-at, under-both, any-here, any-more, any-done}
+use Rattle.laws.proofs.Filtering.{kept, filter-take, filter-length, filter-under, under-at, under-both, any-here, any-more, any-done}
 use Rattle.lang_ty.specs.declared.arena.Pass.{Pass}
 use Rattle.lang_ty.specs.Nodes.{Arena, Stands, Answers as Stores, Lists as ListNode, Listed as ListedNode, Word, Kind, Is}
 use Rattle.lang_ty.specs.declared.arena.Given.{Given}
@@ -37,6 +37,7 @@ use Rattle.members.specs.declared.lists.AtMostOne.{AtMostOne}
 use Rattle.members.specs.declared.lists.AtMostOne.the-variants.{Nothing, One, Refused as RefusedP}
 use Rattle.members.specs.declared.lists.Grown.the-variants.{On as OnG, Refused as RefusedG}
 use Rattle.members.specs.Lists.{Few, Lists, Taken, Makes, Tests, Asks, Contains, Gathered, only, KeepsIf, ofKind, Refuses, Wraps, PartIs, AnswersPart, Soles, Grows, CopiedInto, Joined, AsListed, WithLast, Preserves, Drops, stays, DropsFillers, AnswersFlow, Answers}
+use Rattle.cells.specs.Placed.{Holds}
 
 abbrev pub listOf : ℕ → List ℕ → Members
 listOf n ms = record { count = n; at = ms }

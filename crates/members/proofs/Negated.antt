@@ -10,16 +10,16 @@ use lib.ListN.{length, getD, set, drop, length-append, length-set, drop-of-lengt
 use lib.Seq.{drop-cons, getD-set-same, getD-set-other}
 use lib.Dec.{eqb, ltb}
 use borrow.Author.Tests.{eqb-true, eqb-false, ne-eqb}
-use Rattle.cells.specs.Part.{cell, part, if, Under}
+use Rattle.cells.specs.Part.{cell, part, if, eqList}
 use Rattle.cells.specs.Sum.{Sum}
 use Rattle.cells.proofs.Parts.{run-ext, part-set-snoc}
 use Rattle.layout.specs.Layout.{countedCells, countedNodes, heldAt}
 use Rattle.rules.specs.Ceilings.{mostMembers, mostNodes, mostCells}
-use Rattle.rules.specs.Types.{State, Out, ok, no, Run, bind, give, Found, at, nowhere, find, grown, keep, encode, kindOf, members, children, cellsOf, nodeAt, store, TyVar, Primitive, ListOf, Lambda, AttrSet, Union, Intersection, Named, Neg, Bottom, Top}
+use Rattle.rules.specs.Types.{State, Out, ok, no, Run, bind, give, grown, keep, encode, kindOf, members, children, cellsOf, nodeAt, store, TyVar, Primitive, ListOf, Lambda, AttrSet, Union, Intersection, Named, Neg, Bottom, Top}
 use Rattle.rules.specs.Types as rules
 use Rattle.rules.specs.Members.{each, negateNode, negateBy, negate-output-ty}
-use Rattle.rules.proofs.Rows.{node-of, by-kind}
-use Rattle.rules.proofs.Storing.{store-keeps}
+use Rattle.laws.proofs.Rows.{node-of, by-kind}
+use Rattle.laws.proofs.Storing.{store-keeps}
 use Rattle.lang_ty.specs.declared.arena.Pass.{Pass}
 use Rattle.lang_ty.specs.declared.arena.Given.{Given}
 use Rattle.lang_ty.specs.declared.arena.Given.the-variants.{Node as NodeG, Refused as RefusedG}
@@ -28,7 +28,10 @@ use Rattle.lang_ty.proofs.Words.{word-of}
 use Rattle.members.specs.declared.negate.Negated.{Negated}
 use Rattle.members.specs.declared.negate.Negated.the-variants.{Node, Refused}
 use Rattle.members.specs.Negations.{passIn, counting, Counted, Entered, Turns, membersUpTo, Negatable, Negation, AnswersCounted, turnedNode, StoresNegation, Negates, NegatesOutput}
-use Rattle.rules.proofs.Filtering.{under-at, under-both, under-most}
+use Rattle.laws.proofs.Filtering.{under-at, under-both, under-most}
+use Rattle.cells.specs.Placed.{Under}
+use mathlib.Core.Option.{Option, some, none}
+use Rattle.rules.specs.Plain.{find}
 
 -- a state with no marks, and one with those of another
 abbrev unmarked : State → State
@@ -49,18 +52,18 @@ behind-marks true true n st = refl
 behind-marks true false n st = refl
 behind-marks false c n st = refl
 
-keep-marks : (n : rules.Node) (st : State) (f : Found) → keep n st f ≡ remarked st (keep n (unmarked st) f)
-keep-marks n st (at i) = refl
-keep-marks n st nowhere = behind-marks (ltb (length (st .nodes)) mostNodes) (ltb mostCells (st .cells + cellsOf n)) n st
+keep-marks : (n : rules.Node) (st : State) (f : Option ℕ) → keep n st f ≡ remarked st (keep n (unmarked st) f)
+keep-marks n st (some i) = refl
+keep-marks n st none = behind-marks (ltb (length (st .nodes)) mostNodes) (ltb mostCells (st .cells + cellsOf n)) n st
 
-few-marks : (b : Bool) (n : rules.Node) (st : State) (f : Found) → if b (λ _. no 7) (λ _. keep n st f) ≡ remarked st (if b (λ _. no 7) (λ _. keep n (unmarked st) f))
+few-marks : (b : Bool) (n : rules.Node) (st : State) (f : Option ℕ) → if b (λ _. no 7) (λ _. keep n st f) ≡ remarked st (if b (λ _. no 7) (λ _. keep n (unmarked st) f))
 few-marks true n st f = refl
 few-marks false n st f = keep-marks n st f
 
 -- the store reads no marks
 pub store-marks : (n : rules.Node) (st : State) → store n st ≡ remarked st (store n (unmarked st))
 unfolding store
-store-marks n st = few-marks (ltb mostMembers (length (members n))) n st (find (encode n) (map encode (st .nodes)) 0)
+store-marks n st = few-marks (ltb mostMembers (length (members n))) n st (find (eqList (encode n)) 0 (map encode (st .nodes)))
 
 -- a pass of the same nodes and cells
 pub arena-pass : {w : List ℕ} {q p : Pass} {ns : List rules.Node} → q .nodes ≡ p .nodes → q .cells ≡ p .cells → Arena w q ns → Arena w p ns

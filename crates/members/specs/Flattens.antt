@@ -3,7 +3,6 @@ use mathlib.Core.Path.{_≡_}
 use Prim.Native.Nat.{ℕ, _<_}
 use mathlib.Core.List.{List, []}
 use lib.ListN.{length}
-use Rattle.cells.specs.Part.{Under}
 use Rattle.rules.specs.Ceilings.{mostMembers}
 use Rattle.rules.specs.Plain.{addNew}
 use Rattle.rules.specs.Types.{Node}
@@ -12,6 +11,7 @@ use Rattle.lang_ty.specs.declared.arena.Pass.{Pass}
 use Rattle.lang_ty.specs.Nodes.{Arena}
 use Rattle.members.specs.declared.lists.Members.{Members}
 use Rattle.members.specs.Lists.{Lists, Taken}
+use Rattle.cells.specs.Placed.{Under}
 
 -- the first k of the 128 cells out are xs; a k above 128 says that there are more than fit
 pub record Collected (out : List ℕ) (k : ℕ) (xs : List ℕ) : Type 0 where

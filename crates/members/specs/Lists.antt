@@ -5,14 +5,14 @@ use Prim.Native.Nat.{ℕ, _+_, _≤_, _<_}
 use mathlib.Core.List.{List, [], _∷_, _++_}
 use lib.ListN.{length}
 use lib.Dec.{eqb}
-use Rattle.cells.specs.Part.{cell, part, Holds, Under}
+use Rattle.cells.specs.Part.{cell, part}
 use Rattle.cells.specs.Sum.{Sum}
 use Rattle.rules.specs.Ceilings.{mostMembers}
 use Rattle.rules.specs.Plain.{any, filter, contains}
 use Rattle.rules.specs.Types.{Node, State, Out, ok, no, Run, bind, give, is}
 use Rattle.rules.specs.Members.{sole}
-use Rattle.rules.specs.Run.{should-drop-filler}
-use Rattle.rules.specs.Run as rules
+use Rattle.rules.specs.Canonicalizer.{should-drop-filler}
+use Rattle.rules.specs.Canonicalizer as rules
 use Rattle.lang_ty.specs.declared.arena.Pass.{Pass}
 use Rattle.lang_ty.specs.declared.arena.Given.{Given}
 use Rattle.lang_ty.specs.Nodes.{Arena, Stands, Lists as ListNode, Answers as Stores}
@@ -24,6 +24,7 @@ use Rattle.members.specs.declared.lists.AtMostOne.{AtMostOne}
 use Rattle.members.specs.declared.lists.AtMostOne.the-variants.{Nothing, One, Refused as RefusedP}
 use Rattle.members.specs.declared.lists.Grown.{Grown}
 use Rattle.members.specs.declared.lists.Grown.the-variants.{On as OnG, Refused as RefusedG}
+use Rattle.cells.specs.Placed.{Holds, Under}
 
 -- the members m are xs, no more than 128
 pub record Few (m : Members) (xs : List ℕ) : Type 0 where

@@ -5,7 +5,7 @@ use Prim.Native.Nat.{ℕ, zero, suc, _+_, _≤_, _<_}
 use mathlib.Core.List.{List, _++_}
 use lib.ListN.{length, set}
 use lib.Dec.{eqb}
-use Rattle.cells.specs.Part.{cell, part, if, Under}
+use Rattle.cells.specs.Part.{cell, part, if}
 use Rattle.layout.specs.Layout.{countedCells, countedNodes, heldAt}
 use Rattle.rules.specs.Types.{State, Out, ok, no, Union, Intersection, Neg, kindOf, members, nodeAt, store}
 use Rattle.rules.specs.Types as rules
@@ -16,6 +16,7 @@ use Rattle.lang_ty.specs.declared.arena.Given.the-variants.{Node as NodeG, Refu
 use Rattle.lang_ty.specs.Nodes.{Stands}
 use Rattle.members.specs.declared.negate.Negated.{Negated}
 use Rattle.members.specs.declared.negate.Negated.the-variants.{Node, Refused}
+use Rattle.cells.specs.Placed.{Under}
 
 -- the pass whose nodes and cells stand in the two counters, with the marks of q
 abbrev pub passIn : List ℕ → Pass → Pass

@@ -9,7 +9,7 @@ use lib.ListN.{length, drop}
 use lib.Seq.{drop-cons, append-snoc}
 use lib.Dec.{eqb, ltb}
 use borrow.Author.Tests.{ltb-true, lt-ltb, le-ltb, eq-eqb, ne-eqb}
-use Rattle.cells.specs.Part.{if, Under}
+use Rattle.cells.specs.Part.{if}
 use Rattle.rules.specs.Ceilings.{mostNames}
 use Rattle.rules.specs.Plain.{ascending}
 use Rattle.rules.specs.Table.{Field, fieldKeys}
@@ -18,6 +18,7 @@ use Rattle.rules.specs.Members.{meetTypes, mergeField, mergeFields}
 use Rattle.merge.specs.declared.Next.{Next}
 use Rattle.merge.specs.declared.Next.the-variants.{Old, New, Both}
 use Rattle.merge.specs.Merges.{Rise, fieldAt, Comes, oldTaken, newTaken, nextField, nextKey}
+use Rattle.cells.specs.Placed.{Under}
 
 false-true : {A : Type 0} → false ≡ true → A
 false-true e = let z : _≡_ {A = ℕ} 0 1 = cc in absurd (omega arith)

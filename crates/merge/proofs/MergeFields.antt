@@ -9,18 +9,17 @@ use lib.ListN.{length, set, drop, length-map, length-set, length-append, drop-of
 use lib.Seq.{getD-set-same, getD-set-other}
 use lib.Dec.{eqb, ltb}
 use borrow.Author.Tests.{ltb-true, ltb-false, eq-eqb, ne-eqb}
-use Rattle.cells.specs.Part.{cell, if, Holds, Under}
+use Rattle.cells.specs.Part.{cell, if}
 use Rattle.cells.specs.Sum.{Sum}
 use Rattle.cells.proofs.Parts.{run-ext}
 use Rattle.cells.proofs.Holding.{holds-none, holds-place, holds-list, holds-cons, holds-both}
 use Rattle.rules.specs.Ceilings.{mostNames}
-use Rattle.rules.specs.Plain.{Maybe, none, some}
 use Rattle.rules.specs.Table.{Field, Attr, fieldTypes, dynIds}
 use Rattle.rules.specs.Types.{State, Out, ok, no, Run, bind, give, Intersection, AttrSet, Bottom, fieldWords, children, nodeAt, store, is}
 use Rattle.rules.specs.Types as rules
 use Rattle.rules.specs.Members.{meetTypes, mergeFields}
-use Rattle.rules.proofs.Rows.{field-words-length, key-read, type-read}
-use Rattle.rules.proofs.Storing.{store-keeps}
+use Rattle.laws.proofs.Rows.{field-words-length, key-read, type-read}
+use Rattle.laws.proofs.Storing.{store-keeps}
 use Rattle.lang_ty.specs.declared.arena.Pass.{Pass}
 use Rattle.lang_ty.specs.declared.arena.Given.{Given}
 use Rattle.lang_ty.specs.declared.arena.Given.the-variants.{Node as NodeG, Refused as RefusedN}
@@ -35,8 +34,10 @@ use Rattle.merge.specs.declared.Merged.the-variants.{On, Refused}
 use Rattle.merge.specs.declared.Next.{Next}
 use Rattle.merge.specs.declared.Next.the-variants.{Old, New, Both}
 use Rattle.merge.specs.Merges.{Rise, fieldAt, Meets, putAt, PutsField, HeldKey, HeldType, Comes, ComesNext, oldTaken, newTaken, nextField, nextKey, FieldPut, AnswersField, MergesField, GoesOn, Got, fieldsAt, SetNode, Free, MergesFields}
-use Rattle.rules.proofs.Filtering.{under-at, under-most}
+use Rattle.laws.proofs.Filtering.{under-at, under-most}
 use Rattle.merge.proofs.Fields.{rise-length, rise-snoc, rise-most, sweep, sweep-from, sweep-left, sweep-right, sweep-few}
+use Rattle.cells.specs.Placed.{Holds, Under}
+use mathlib.Core.Option.{Option, none, some}
 
 true-false : {A : Type 0} → false ≡ true → A
 true-false e = let z : _≡_ {A = ℕ} 0 1 = cc in absurd (omega arith)
@@ -347,7 +348,7 @@ pub record Swept (st : State) (fs : List Field) (t : Attr) (w held : List ℕ) (
 pub record Sweeping (w₀ held₀ : List ℕ) (p : Pass) (g : Merging) (x b : ℕ) (w held : List ℕ) (q : Pass) (i j k : ℕ) : Type 0 where
   pub cells : length held ≡ length held₀
   pub kept : (c : ℕ) → c < b → cell held c ≡ cell held₀ c
-  pub is : {st : State} {fs : List Field} {d : Maybe ℕ} {t : Attr} → Stands st w₀ p → Got held₀ g fs d (p .nodes) → SetNode st p x t → Free held₀ (g .area) b
+  pub is : {st : State} {fs : List Field} {d : Option ℕ} {t : Attr} → Stands st w₀ p → Got held₀ g fs d (p .nodes) → SetNode st p x t → Free held₀ (g .area) b
       → Swept st fs t w held q (g .area) b i j k
 
 pub sweeping-start : {w held : List ℕ} {p : Pass} {g : Merging} {x b : ℕ} → Sweeping w held p g x b w held p 0 0 0
@@ -380,7 +381,7 @@ sweeping-start {held = held} {b = b} =
 -- the turn of the loop
 module _ {w₀ held₀ : List ℕ} {p : Pass} {g : Merging} {x b : ℕ} {w held : List ℕ} {q : Pass} {i j k p₀ m : ℕ}
     (inv : Sweeping w₀ held₀ p g x b w held q i j k) (first : SetPlace w₀ x p₀) (fields : Fields w₀ p₀ m) where
-  module _ {st : State} {fs : List Field} {d : Maybe ℕ} {t : Attr} (on : Stands st w₀ p) (got : Got held₀ g fs d (p .nodes)) (node : SetNode st p x t)
+  module _ {st : State} {fs : List Field} {d : Option ℕ} {t : Attr} (on : Stands st w₀ p) (got : Got held₀ g fs d (p .nodes)) (node : SetNode st p x t)
       (free : Free held₀ (g .area) b) where
     abbrev mid : Swept st fs t w held q (g .area) b i j k
     mid = inv .is on got node free
@@ -485,7 +486,7 @@ module _ {w₀ held₀ : List ℕ} {p : Pass} {g : Merging} {x b : ℕ} {w held 
   module _ {most r : ℕ} {goes : Bool} {next : Next} {flow : Flow} {w′ held′ : List ℕ}
       (on : GoesOn k most i (g .fields) j m goes) (e : goes ≡ true) (place : SetPlace w x r) (c : ComesNext w held (g .area) i (g .fields) r j m next)
       (call : MergesField w held q next (g .area) i r j b k w′ held′ flow) where
-    answered : {st : State} {fs : List Field} {d : Maybe ℕ} {t : Attr} (up : Stands st w₀ p) (got : Got held₀ g fs d (p .nodes)) (node : SetNode st p x t)
+    answered : {st : State} {fs : List Field} {d : Option ℕ} {t : Attr} (up : Stands st w₀ p) (got : Got held₀ g fs d (p .nodes)) (node : SetNode st p x t)
         (free : Free held₀ (g .area) b)
         → AnswersField (nextField next (fieldAt fs i) (fieldAt (t .fields) j) (mid up got node free .now)) (nextKey next (fieldAt fs i) (fieldAt (t .fields) j))
           (mid up got node free .now) w′ held held′ b k flow

@@ -10,19 +10,18 @@ use mathlib.Core.List.{List, [], _∷_, _++_, append-nil, append-assoc}
 use lib.ListN.{length, getD, drop, length-append, drop-of-length-le, List·getD-append}
 use lib.Seq.{drop-cons}
 use borrow.Author.Tests.{eq-eqb, ne-eqb}
-use Rattle.cells.specs.Part.{cell, if, Under}
+use Rattle.cells.specs.Part.{cell, if}
 use Rattle.cells.specs.Sum.{Sum}
 use Rattle.cells.proofs.Holding.{holds-none}
 use Rattle.layout.specs.Layout.{areaLength}
 use Rattle.rules.specs.Ceilings.{mostNames}
-use Rattle.rules.specs.Plain.{Maybe, none, some}
 use Rattle.rules.specs.Table.{Field, Attr, attrAt, fieldTypes, dynIds}
 use Rattle.rules.specs.Types.{State, Out, ok, bind, give, Intersection, AttrSet, Bottom, encode, kindOf, children, nodeAt, asAttr, store}
 use Rattle.rules.specs.Types as rules
 use Rattle.rules.specs.Members.{mergeFields, mergeDyn, mergeAttrs, attrOf, attrsOf}
-use Rattle.rules.specs.Sound.{Orderly, OrderlySet, Ordered}
-use Rattle.rules.proofs.Rows.{node-of}
-use Rattle.rules.proofs.Storing.{store-keeps}
+use Rattle.laws.specs.Sound.{Orderly, OrderlySet, Ordered}
+use Rattle.laws.proofs.Rows.{node-of}
+use Rattle.laws.proofs.Storing.{store-keeps}
 use Rattle.lang_ty.specs.declared.arena.Pass.{Pass}
 use Rattle.lang_ty.specs.declared.arena.Given.{Given}
 use Rattle.lang_ty.specs.declared.arena.Given.the-variants.{Node as NodeG, Refused as RefusedN}
@@ -35,40 +34,42 @@ use Rattle.merge.specs.declared.Merged.{Merged}
 use Rattle.merge.specs.declared.Merged.the-variants.{On, Refused}
 use Rattle.members.specs.Lists.{Taken, firstOf}
 use Rattle.merge.specs.Merges.{Roomy, Got, dynAt, SetNode, Free, AnswersFields, MergesFields, DynGot, AnswersDyn, MergesDyn, OtherArea, Then, Arrived, AnswersMerged, MergesOne, AllSets, MergesAll}
-use Rattle.rules.proofs.Filtering.{under-at, under-most}
+use Rattle.laws.proofs.Filtering.{under-at, under-most}
 use Rattle.members.proofs.Gathered.{few-at, few-below}
 use Rattle.merge.proofs.Fields.{rise-of}
 use Rattle.merge.proofs.MergeFields.{under-right}
+use Rattle.cells.specs.Placed.{Under}
+use mathlib.Core.Option.{Option, none, some}
 
 -- two dyns, by how many there are
 module _ (st : State) where
-  merge-none : (d e : Maybe ℕ) → length (dynIds e) ≡ 0 → mergeDyn d e st ≡ ok d st
+  merge-none : (d e : Option ℕ) → length (dynIds e) ≡ 0 → mergeDyn d e st ≡ ok d st
   merge-none none none h = refl
   merge-none none (some x) h = absurd (omega arith)
   merge-none (some o) none h = refl
   merge-none (some o) (some x) h = absurd (omega arith)
 
-  merge-first : (d e : Maybe ℕ) → length (dynIds d) ≡ 0 → 0 < length (dynIds e) → mergeDyn d e st ≡ ok (some (getD (dynIds e) 0 0)) st
+  merge-first : (d e : Option ℕ) → length (dynIds d) ≡ 0 → 0 < length (dynIds e) → mergeDyn d e st ≡ ok (some (getD (dynIds e) 0 0)) st
   merge-first none none h l = absurd (omega arith)
   merge-first none (some x) h l = refl
   merge-first (some o) e h l = absurd (omega arith)
 
-  abbrev dyn-by : Bool → ℕ → ℕ → Out (Maybe ℕ)
+  abbrev dyn-by : Bool → ℕ → ℕ → Out (Option ℕ)
   dyn-by b o x = (if b (λ _. give (some o)) (λ _ s. bind (store (Intersection (o ∷ x ∷ [])) s) (λ y. give (some y)))) st
 
-  merge-same : (d e : Maybe ℕ) → 0 < length (dynIds d) → 0 < length (dynIds e) → getD (dynIds d) 0 0 ≡ getD (dynIds e) 0 0
+  merge-same : (d e : Option ℕ) → 0 < length (dynIds d) → 0 < length (dynIds e) → getD (dynIds d) 0 0 ≡ getD (dynIds e) 0 0
       → mergeDyn d e st ≡ ok (some (getD (dynIds e) 0 0)) st
   merge-same none e h l z = absurd (omega arith)
   merge-same (some o) none h l z = absurd (omega arith)
   merge-same (some o) (some x) h l z = ap (λ (b : Bool). dyn-by b o x) (eq-eqb o x z) ∙ ap (λ (v : ℕ). ok (some v) st) z
 
-  merge-both : (d e : Maybe ℕ) → 0 < length (dynIds d) → 0 < length (dynIds e) → (getD (dynIds d) 0 0 ≡ getD (dynIds e) 0 0 → ⊥)
+  merge-both : (d e : Option ℕ) → 0 < length (dynIds d) → 0 < length (dynIds e) → (getD (dynIds d) 0 0 ≡ getD (dynIds e) 0 0 → ⊥)
       → mergeDyn d e st ≡ bind (store (Intersection (getD (dynIds d) 0 0 ∷ getD (dynIds e) 0 0 ∷ [])) st) (λ x. give (some x))
   merge-both none e h l z = absurd (omega arith)
   merge-both (some o) none h l z = absurd (omega arith)
   merge-both (some o) (some x) h l z = ap (λ (b : Bool). dyn-by b o x) (ne-eqb o x z)
 
-got-dyn : {held : List ℕ} {g : Merging} {fs : List Field} {d : Maybe ℕ} {k k′ x : ℕ} → Got held g fs d k → k ≤ k′ → x < k′ → Got held (dynAt g x) fs (some x) k′
+got-dyn : {held : List ℕ} {g : Merging} {fs : List Field} {d : Option ℕ} {k k′ x : ℕ} → Got held g fs d k → k ≤ k′ → x < k′ → Got held (dynAt g x) fs (some x) k′
 got-dyn {fs = fs} {k = k} {k′ = k′} h le lt =
     record {
       count = h .count;
@@ -102,7 +103,7 @@ module _ {w : List ℕ} {q : Pass} {g : Merging} {p n : ℕ} (has : Dyns w p n) 
       }
 
   module _ {new : ℕ} (filled : n ≡ 0 → ⊥) (ty : DynType w p new) where
-    dyn-taken : {g′ : Merging} {held : List ℕ} {st : State} {fs : List Field} {d : Maybe ℕ} {t : Attr} → g′ ≡ dynAt g new → Stands st w q → Got held g fs d (q .nodes)
+    dyn-taken : {g′ : Merging} {held : List ℕ} {st : State} {fs : List Field} {d : Option ℕ} {t : Attr} → g′ ≡ dynAt g new → Stands st w q → Got held g fs d (q .nodes)
         → SetAt w p t → Under (q .nodes) (dynIds (t .dyn)) → mergeDyn d (t .dyn) st ≡ ok (some (getD (dynIds (t .dyn)) 0 0)) st
         → DynGot (mergeDyn d (t .dyn) st) fs st w held g g′ q
     dyn-taken {g′} {held} {st} {fs} {d} {t} e on got at low z =
@@ -132,7 +133,7 @@ module _ {w : List ℕ} {q : Pass} {g : Merging} {p n : ℕ} (has : Dyns w p n) 
           }
 
       module _ {w′ : List ℕ} {r : Given} (e : g .«dyn_type» ≡ new → ⊥) (h : Stored (6 ∷ 2 ∷ g .«dyn_type» ∷ new ∷ []) 2 w q w′ r) where
-        both-is : (st : State) {held : List ℕ} {fs : List Field} {d : Maybe ℕ} {t : Attr} → Got held g fs d (q .nodes) → SetAt w p t
+        both-is : (st : State) {held : List ℕ} {fs : List Field} {d : Option ℕ} {t : Attr} → Got held g fs d (q .nodes) → SetAt w p t
             → mergeDyn d (t .dyn) st ≡ bind (store (Intersection (g .«dyn_type» ∷ new ∷ [])) st) (λ x. give (some x))
         both-is st {d = d} {t = t} got at =
             let l : 0 < length (dynIds d) = omega (arith, got .dyns, old) in
@@ -141,7 +142,7 @@ module _ {w : List ℕ} {q : Pass} {g : Merging} {p n : ℕ} (has : Dyns w p n) 
             merge-both st d (t .dyn) l (dyn-there has filled at) (λ z. e (x ∙ z ∙ sym y))
             ∙ ap₂ (λ (a b : ℕ). bind (store (Intersection (a ∷ b ∷ [])) st) (λ v. give (some v))) (sym x) (sym y)
 
-        both-stored : {held : List ℕ} {st : State} {fs : List Field} {d : Maybe ℕ} {t : Attr} → Stands st w q → Got held g fs d (q .nodes) → SetAt w p t
+        both-stored : {held : List ℕ} {st : State} {fs : List Field} {d : Option ℕ} {t : Attr} → Stands st w q → Got held g fs d (q .nodes) → SetAt w p t
             → Under (q .nodes) (dynIds (t .dyn)) → Stores (store (Intersection (g .«dyn_type» ∷ new ∷ [])) st) w′ r
         both-stored {d = d} {t = t} on got at low =
             let l : 0 < length (dynIds d) = omega (arith, got .dyns, old) in
@@ -201,7 +202,7 @@ set-stays {st} {st′} {x = x} more on on′ e h =
 
 -- `merge_one`
 module _ {w : List ℕ} {q : Pass} {g : Merging} {x p : ℕ} {w1 : List ℕ} {first : Merged} (place : SetPlace w x p) (call1 : MergesDyn w q g p w1 first) where
-  dyn-of : {held : List ℕ} {st : State} {fs : List Field} {d : Maybe ℕ} {t : Attr} → Stands st w q → Got held g fs d (q .nodes) → SetNode st q x t
+  dyn-of : {held : List ℕ} {st : State} {fs : List Field} {d : Option ℕ} {t : Attr} → Stands st w q → Got held g fs d (q .nodes) → SetNode st q x t
       → AnswersDyn (mergeDyn d (t .dyn) st) fs st w1 held g first
   dyn-of {held} {t = t} on got node =
       let known = on .arena .count in
@@ -216,13 +217,13 @@ module _ {w : List ℕ} {q : Pass} {g : Merging} {x p : ℕ} {w1 : List ℕ} {fi
       record {
         kept = λ c lt. refl;
         is = λ {st} {fs} {d} {t} left on got node roomy area then.
-            ap (λ (o : Out (Maybe ℕ)). bind o (λ d′ z. bind (mergeFields fs (t .fields) z) (λ fs′. mergeAttrs fs′ d′ left then)))
+            ap (λ (o : Out (Option ℕ)). bind o (λ d′ z. bind (mergeFields fs (t .fields) z) (λ fs′. mergeAttrs fs′ d′ left then)))
             (subst (λ (m : Merged). AnswersDyn (mergeDyn d (t .dyn) st) fs st w1 held g m) e (dyn-of on got node));
       }
 
   module _ {held : List ℕ} {h : ℕ} {g1 : Merging} {q1 : Pass} {b : ℕ} {w′ held′ : List ℕ} {m : Merged} (e : first ≡ On g1 q1) (other : OtherArea h (g1 .area) b)
       (call2 : MergesFields w1 held q1 g1 x b w′ held′ m) where
-    module _ {st : State} {fs : List Field} {d : Maybe ℕ} {t : Attr} (left : List Attr) (on : Stands st w q) (got : Got held g fs d (q .nodes)) (node : SetNode st q x t)
+    module _ {st : State} {fs : List Field} {d : Option ℕ} {t : Attr} (left : List Attr) (on : Stands st w q) (got : Got held g fs d (q .nodes)) (node : SetNode st q x t)
         (roomy : Roomy held h) (area : (g .area ≡ h) ⊎ (g .area ≡ h + areaLength)) where
       abbrev mid : DynGot (mergeDyn d (t .dyn) st) fs st w1 held g g1 q1
       mid = subst (λ (m : Merged). AnswersDyn (mergeDyn d (t .dyn) st) fs st w1 held g m) e (dyn-of on got node)
@@ -237,7 +238,7 @@ module _ {w : List ℕ} {q : Pass} {g : Merging} {x p : ℕ} {w1 : List ℕ} {fi
             apart = other .apart (roomy .small) which;
           }
 
-      abbrev rest : Then → Maybe ℕ → State → Out ℕ
+      abbrev rest : Then → Option ℕ → State → Out ℕ
       rest then d′ z = bind (mergeFields fs (t .fields) z) (λ fs′. mergeAttrs fs′ d′ left then)
 
       one-by : (r : Merged) → AnswersFields (mergeFields fs (t .fields) (mid .after)) (mid .dyn) (mid .after) w′ held′ b r
@@ -249,7 +250,7 @@ module _ {w : List ℕ} {q : Pass} {g : Merging} {x p : ℕ} {w1 : List ℕ} {fi
             fields = a .fields;
             dyn = mid .dyn;
             is = λ then.
-                ap (λ (o : Out (Maybe ℕ)). bind o (rest then)) (mid .is)
+                ap (λ (o : Out (Option ℕ)). bind o (rest then)) (mid .is)
                 ∙ ap (λ (o : Out (List Field)). bind o (λ fs′. mergeAttrs fs′ (mid .dyn) left then)) (a .is);
             nodes = a .nodes ∙ ap (λ (l : List rules.Node). l ++ a .more) (mid .nodes) ∙ append-assoc (st .nodes) (mid .more) (a .more);
             stands = a .stands;
@@ -257,7 +258,7 @@ module _ {w : List ℕ} {q : Pass} {g : Merging} {x p : ℕ} {w1 : List ℕ} {fi
             area = ⊎-elim (λ z. inl (a .area ∙ z)) (λ z. inr (a .area ∙ z)) (other .is (roomy .small) which);
           }
       one-by (Refused k) a = λ then.
-          ap (λ (o : Out (Maybe ℕ)). bind o (rest then)) (mid .is) ∙ ap (λ (o : Out (List Field)). bind o (λ fs′. mergeAttrs fs′ (mid .dyn) left then)) a
+          ap (λ (o : Out (Option ℕ)). bind o (rest then)) (mid .is) ∙ ap (λ (o : Out (List Field)). bind o (λ fs′. mergeAttrs fs′ (mid .dyn) left then)) a
 
       one-answers : AnswersMerged (λ then. mergeAttrs fs d (t ∷ left) then st) left st w′ held′ h m
       one-answers = one-by m (call2 .is (mid .stands) (mid .got) (set-stays (mid .more) on (mid .stands) (mid .nodes) node) free)

@@ -10,17 +10,17 @@ use lib.ListN.{length, getD, take, drop, set, length-set, length-append, length-
 use lib.Seq.{getD-set-same, getD-set-other, take-all, length-take-le, append-snoc}
 use lib.Dec.{eqb}
 use borrow.Author.Tests.{eqb-true, eqb-false, eq-eqb, ne-eqb, not-true, not-false}
-use Rattle.cells.specs.Part.{cell, part, if, Holds, Under}
+use Rattle.cells.specs.Part.{cell, part, if}
 use Rattle.cells.specs.Sum.{Sum}
 use Rattle.cells.proofs.Holding.{holds-none, holds-place, holds-cons, holds-both, holds-ext}
 use Rattle.rules.specs.Ceilings.{mostMembers, mostNames}
-use Rattle.rules.specs.Plain.{Maybe, none, some, all, filter, contains, empty}
+use Rattle.rules.specs.Plain.{all, filter, contains, empty}
 use Rattle.rules.specs.Table.{Field, Attr, fieldKeys, fieldTypes, dynIds}
 use Rattle.rules.specs.Types.{State, Out, bind, give, TyVar, Primitive, ListOf, Lambda, AttrSet, Union, Intersection, Named, Neg, Bottom, Top, fieldWords, dynWords, kindOf, nodeAt, asAttr, store}
 use Rattle.rules.specs.Types as rules
 use Rattle.rules.specs.Members.{mergeAttrs, optionalInAll, openIfAll, attrOf, attrsOf, merge-attrset-intersection}
-use Rattle.rules.proofs.Rows.{field-words-length, dyn-words-length}
-use Rattle.rules.proofs.Storing.{store-keeps}
+use Rattle.laws.proofs.Rows.{field-words-length, dyn-words-length}
+use Rattle.laws.proofs.Storing.{store-keeps}
 use Rattle.lang_ty.specs.declared.arena.Pass.{Pass}
 use Rattle.lang_ty.specs.declared.arena.Given.{Given}
 use Rattle.lang_ty.specs.Nodes.{highest, Arena, Stands, Interned, Written, Answers as Stores}
@@ -39,11 +39,13 @@ use Rattle.merge.specs.declared.Merged.{Merged}
 use Rattle.merge.specs.declared.Merged.the-variants.{On, Refused}
 use Rattle.members.specs.Lists.{Few, Taken, Makes, ofKind, sift, Refuses, WithLast, AnswersFlow, Answers, firstOf}
 use Rattle.merge.specs.Merges.{MergesSets, HeldKey, Got, Then, Arrived, AnswersMerged, AllSets, MergesAll, allowed, Allows, OptionalInAll, OpenIfAll, frontWords, WritesFields, PutsIf, optionalKeys, WritesOptional, mergedNode, StoresMerged, MergedLast}
-use Rattle.rules.proofs.Filtering.{filter-take, filter-length, under-at, under-both, under-most}
+use Rattle.laws.proofs.Filtering.{filter-take, filter-length, under-at, under-both, under-most}
 use Rattle.members.proofs.Gathered.{few-at, few-below}
 use Rattle.merge.proofs.Fields.{rise-length}
 use Rattle.merge.proofs.MergeFields.{holds-alike}
 use Rattle.merge.proofs.MergeSets.{setAt, set-of, attrs-drop}
+use Rattle.cells.specs.Placed.{Holds, Under}
+use mathlib.Core.Option.{Option, none, some}
 
 -- a test of all sets, at member i; and its answer for the set at a
 pub record Testing (f : Attr → Bool) (w ms : List ℕ) (n i : ℕ) : Type 0 where
@@ -120,26 +122,26 @@ module _ {w ms : List ℕ} {n i : ℕ} (c : Testing opened w ms n i) where
   open-done le = record { is = λ h m a. ap (λ (v : Bool). if v (λ _. 1) (λ _. 0)) (testing-done c le h m a) }
 
 -- `write_fields`
-words-none : (d : Maybe ℕ) → length (dynIds d) ≡ 0 → dynWords d ≡ 0 ∷ []
+words-none : (d : Option ℕ) → length (dynIds d) ≡ 0 → dynWords d ≡ 0 ∷ []
 words-none none e = refl
 words-none (some x) e = absurd (omega arith)
 
-words-some : (d : Maybe ℕ) → (length (dynIds d) ≡ 0 → ⊥) → dynWords d ≡ 1 ∷ getD (dynIds d) 0 0 ∷ []
+words-some : (d : Option ℕ) → (length (dynIds d) ≡ 0 → ⊥) → dynWords d ≡ 1 ∷ getD (dynIds d) 0 0 ∷ []
 words-some none e = absurd (e refl)
 words-some (some x) e = refl
 
-dyns-few : (d : Maybe ℕ) → length (dynIds d) ≤ 1
+dyns-few : (d : Option ℕ) → length (dynIds d) ≤ 1
 dyns-few none = omega arith
 dyns-few (some x) = omega arith
 
-front-length : (fs : List Field) (d : Maybe ℕ) → length (frontWords fs d) ≡ 3 + 2 * length fs + length (dynIds d)
+front-length : (fs : List Field) (d : Option ℕ) → length (frontWords fs d) ≡ 3 + 2 * length fs + length (dynIds d)
 front-length fs d = omega (arith, length-append (fieldWords fs) (dynWords d), field-words-length fs, dyn-words-length d)
 
-got-few : {held : List ℕ} {g : Merging} {fs : List Field} {d : Maybe ℕ} {k : ℕ} → Got held g fs d k → length fs ≤ mostNames
+got-few : {held : List ℕ} {g : Merging} {fs : List Field} {d : Option ℕ} {k : ℕ} → Got held g fs d k → length fs ≤ mostNames
 got-few {fs = fs} got = omega (arith, rise-length 0 mostNames fs (got .keys))
 
 -- how many words there are before the dyn
-before-dyn : {held : List ℕ} {g : Merging} {fs : List Field} {dyn : Maybe ℕ} {k n d : ℕ} → Got held g fs dyn k → Sum (g .fields) (g .fields) n → Sum n 2 d → d ≡ 2 + 2 * length fs
+before-dyn : {held : List ℕ} {g : Merging} {fs : List Field} {dyn : Option ℕ} {k n d : ℕ} → Got held g fs dyn k → Sum (g .fields) (g .fields) n → Sum n 2 d → d ≡ 2 + 2 * length fs
 before-dyn got two more =
     let few = got-few got in
     let c = got .count in
@@ -148,7 +150,7 @@ before-dyn got two more =
 
 module _ {w w1 w2 w3 held : List ℕ} {t p1 f n : ℕ} {g : Merging} (two : Sum (g .fields) (g .fields) n) (first : w1 ≡ set w t 4) (e1 : p1 ≡ t + 1)
     (second : w2 ≡ set w1 p1 (g .fields)) (sum : Sum t 2 f) (rest : Written f w2 w3 (part held (g .area) n)) where
-  front : {fs : List Field} {d : Maybe ℕ} {k : ℕ} → Got held g fs d k → t ≤ highest → Written t w w3 (4 ∷ length fs ∷ fieldWords fs)
+  front : {fs : List Field} {d : Option ℕ} {k : ℕ} → Got held g fs d k → t ≤ highest → Written t w w3 (4 ∷ length fs ∷ fieldWords fs)
   front {fs} got le =
       let few = got-few got in
       let c = got .count in
@@ -277,7 +279,7 @@ module _ {w w1 w2 w3 w4 held w′ : List ℕ} {q : Pass} {g : Merging} {m : Memb
     (top : nodes.Top w q t) (op : OpenIfAll w (m .at) (m .count) opens) (front : WritesFields w t held g w1 len) (so : Sum t len o) (e2 : w2 ≡ set w1 o opens)
     (so2 : Sum o 2 o2) (opt : WritesOptional w2 o2 held g m w3 k) (ep : p ≡ o + 1) (e4 : w4 ≡ set w3 p k)
     (sl2 : Sum len 2 l2) (sl3 : Sum l2 k l3) (sf2 : Sum (g .fields) (g .fields) f2) (sc : Sum f2 k cells) (int : Interned w4 q l3 cells w′ r) where
-  module _ {st : State} {xs : List ℕ} {fs : List Field} {d : Maybe ℕ} (on : Stands st w q) (taken : Taken m xs (q .nodes)) (sets : AllSets (st .nodes) xs)
+  module _ {st : State} {xs : List ℕ} {fs : List Field} {d : Option ℕ} (on : Stands st w q) (taken : Taken m xs (q .nodes)) (sets : AllSets (st .nodes) xs)
       (got : Got held g fs d (q .nodes)) where
     abbrev ts : List Attr
     ts = attrsOf (st .nodes) xs

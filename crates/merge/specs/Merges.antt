@@ -5,15 +5,15 @@ use mathlib.Core.Logic.{_⊎_}
 use Prim.Native.Nat.{ℕ, suc, _+_, _*_, _≤_, _<_}
 use mathlib.Core.List.{List, [], _∷_, _++_}
 use lib.ListN.{length, getD, set}
-use Rattle.cells.specs.Part.{cell, if, Holds, Under}
+use Rattle.cells.specs.Part.{cell, if}
 use Rattle.layout.specs.Layout.{areaLength}
 use Rattle.rules.specs.Ceilings.{mostMembers, mostNames}
-use Rattle.rules.specs.Plain.{Maybe, none, some, filter, contains}
+use Rattle.rules.specs.Plain.{filter, contains}
 use Rattle.rules.specs.Table.{Field, Attr, fieldKeys, fieldTypes, dynIds}
 use Rattle.rules.specs.Types.{State, Out, ok, no, Run, bind, give, AttrSet, fieldWords, dynWords, kindOf, nodeAt, store}
 use Rattle.rules.specs.Types as rules
 use Rattle.rules.specs.Members.{meetTypes, mergeFields, mergeDyn, mergeAttrs, optionalInAll, openIfAll, attrsOf, merge-attrset-intersection}
-use Rattle.rules.specs.Sound.{Sound, Ordered}
+use Rattle.laws.specs.Sound.{Sound, Ordered}
 use Rattle.lang_ty.specs.declared.arena.Pass.{Pass}
 use Rattle.lang_ty.specs.declared.arena.Given.{Given}
 use Rattle.lang_ty.specs.Nodes.{highest, Arena, Stands, Written, Answers as Stores}
@@ -28,6 +28,8 @@ use Rattle.merge.specs.declared.Merged.the-variants.{On, Refused}
 use Rattle.merge.specs.declared.Next.{Next}
 use Rattle.merge.specs.declared.Next.the-variants.{Old, New, Both}
 use Rattle.members.specs.Lists.{Few, Taken, Answers, firstOf}
+use Rattle.cells.specs.Placed.{Holds, Under}
+use mathlib.Core.Option.{Option, none, some}
 
 -- from h on there is room for two areas of 1,024 fields
 pub record Roomy (held : List ℕ) (h : ℕ) : Type 0 where
@@ -124,7 +126,7 @@ pub record GoesOn (k most i n j m : ℕ) (r : Bool) : Type 0 where
   pub none : r ≡ false → (most ≤ k) ⊎ ((n ≤ i) × (m ≤ j))
 
 -- g has the fields fs, held in its area, and the dyn d; their types are below k
-pub record Got (held : List ℕ) (g : Merging) (fs : List Field) (d : Maybe ℕ) (k : ℕ) : Type 0 where
+pub record Got (held : List ℕ) (g : Merging) (fs : List Field) (d : Option ℕ) (k : ℕ) : Type 0 where
   pub count : g .fields ≡ length fs
   pub holds : Holds held (g .area) (fieldWords fs)
   pub keys : Rise 0 mostNames fs
@@ -151,7 +153,7 @@ pub record Free (held : List ℕ) (a b : ℕ) : Type 0 where
   pub apart : (a + areaLength ≤ b) ⊎ (b + areaLength ≤ a)
 
 -- the rules give these fields too, and they are held at b
-pub record FieldsGot (o : Out (List Field)) (d : Maybe ℕ) (st : State) (w held : List ℕ) (b : ℕ) (g : Merging) (q : Pass) : Type 0 where
+pub record FieldsGot (o : Out (List Field)) (d : Option ℕ) (st : State) (w held : List ℕ) (b : ℕ) (g : Merging) (q : Pass) : Type 0 where
   pub after : State
   pub more : List rules.Node
   pub fields : List Field
@@ -161,32 +163,32 @@ pub record FieldsGot (o : Out (List Field)) (d : Maybe ℕ) (st : State) (w held
   pub got : Got held g fields d (q .nodes)
   pub area : g .area ≡ b
 
-abbrev pub AnswersFields : Out (List Field) → Maybe ℕ → State → List ℕ → List ℕ → ℕ → Merged → Type 0
+abbrev pub AnswersFields : Out (List Field) → Option ℕ → State → List ℕ → List ℕ → ℕ → Merged → Type 0
 AnswersFields o d st w held b (On g q) = FieldsGot o d st w held b g q
 AnswersFields o d st w held b (Refused k) = o ≡ no k
 
 pub record MergesFields (w held : List ℕ) (p : Pass) (g : Merging) (x b : ℕ) (w′ held′ : List ℕ) (r : Merged) : Type 0 where
   pub kept : (c : ℕ) → c < b → cell held′ c ≡ cell held c
-  pub is : {st : State} {fs : List Field} {d : Maybe ℕ} {t : Attr} → Stands st w p → Got held g fs d (p .nodes) → SetNode st p x t → Free held (g .area) b
+  pub is : {st : State} {fs : List Field} {d : Option ℕ} {t : Attr} → Stands st w p → Got held g fs d (p .nodes) → SetNode st p x t → Free held (g .area) b
       → AnswersFields (mergeFields fs (t .fields) st) d st w′ held′ b r
 
 -- the rules give this dyn too
-pub record DynGot (o : Out (Maybe ℕ)) (fs : List Field) (st : State) (w held : List ℕ) (g g′ : Merging) (q : Pass) : Type 0 where
+pub record DynGot (o : Out (Option ℕ)) (fs : List Field) (st : State) (w held : List ℕ) (g g′ : Merging) (q : Pass) : Type 0 where
   pub after : State
   pub more : List rules.Node
-  pub dyn : Maybe ℕ
+  pub dyn : Option ℕ
   pub is : o ≡ ok dyn after
   pub nodes : after .nodes ≡ st .nodes ++ more
   pub stands : Stands after w q
   pub got : Got held g′ fs dyn (q .nodes)
   pub area : g′ .area ≡ g .area
 
-abbrev pub AnswersDyn : Out (Maybe ℕ) → List Field → State → List ℕ → List ℕ → Merging → Merged → Type 0
+abbrev pub AnswersDyn : Out (Option ℕ) → List Field → State → List ℕ → List ℕ → Merging → Merged → Type 0
 AnswersDyn o fs st w held g (On g′ q) = DynGot o fs st w held g g′ q
 AnswersDyn o fs st w held g (Refused k) = o ≡ no k
 
 pub record MergesDyn (w : List ℕ) (q : Pass) (g : Merging) (p : ℕ) (w′ : List ℕ) (r : Merged) : Type 0 where
-  pub is : (held : List ℕ) {st : State} {fs : List Field} {d : Maybe ℕ} {t : Attr} → Stands st w q → Got held g fs d (q .nodes) → SetAt w p t
+  pub is : (held : List ℕ) {st : State} {fs : List Field} {d : Option ℕ} {t : Attr} → Stands st w q → Got held g fs d (q .nodes) → SetAt w p t
       → Under (q .nodes) (dynIds (t .dyn)) → AnswersDyn (mergeDyn d (t .dyn) st) fs st w′ held g r
 
 -- the one of the two areas from h on that is not at a
@@ -197,14 +199,14 @@ pub record OtherArea (h a r : ℕ) : Type 0 where
 
 -- what is done with the merged fields and dyn
 abbrev pub Then : Type 0
-Then = List Field → Maybe ℕ → Run ℕ
+Then = List Field → Option ℕ → Run ℕ
 
 -- the rules come as far: these fields and this dyn, in one of the two areas from h on, and sets that are left
 pub record Arrived (before : Then → Out ℕ) (left : List Attr) (st : State) (w held : List ℕ) (h : ℕ) (g : Merging) (q : Pass) : Type 0 where
   pub after : State
   pub more : List rules.Node
   pub fields : List Field
-  pub dyn : Maybe ℕ
+  pub dyn : Option ℕ
   pub is : (then : Then) → before then ≡ mergeAttrs fields dyn left then after
   pub nodes : after .nodes ≡ st .nodes ++ more
   pub stands : Stands after w q
@@ -217,7 +219,7 @@ AnswersMerged before left st w held h (Refused k) = (then : Then) → before the
 
 pub record MergesOne (w held : List ℕ) (h : ℕ) (q : Pass) (g : Merging) (x : ℕ) (w′ held′ : List ℕ) (r : Merged) : Type 0 where
   pub kept : (c : ℕ) → c < h → cell held′ c ≡ cell held c
-  pub is : {st : State} {fs : List Field} {d : Maybe ℕ} {t : Attr} (left : List Attr) → Stands st w q → Got held g fs d (q .nodes) → SetNode st q x t
+  pub is : {st : State} {fs : List Field} {d : Option ℕ} {t : Attr} (left : List Attr) → Stands st w q → Got held g fs d (q .nodes) → SetNode st q x t
       → Roomy held h → (g .area ≡ h) ⊎ (g .area ≡ h + areaLength) → AnswersMerged (λ then. mergeAttrs fs d (t ∷ left) then st) left st w′ held′ h r
 
 -- each of xs is a set
@@ -237,18 +239,19 @@ pub record Allows (w : List ℕ) (a key : ℕ) (r : Bool) : Type 0 where
   pub is : {t : Attr} → SetAt w a t → r ≡ allowed key t
 
 pub record OptionalInAll (w ms : List ℕ) (n key : ℕ) (r : Bool) : Type 0 where
-  pub is : {q : Pass} {ns : List rules.Node} {xs : List ℕ} → Arena w q ns → Taken (firstOf n ms) xs (length ns) → AllSets ns xs → r ≡ optionalInAll (attrsOf ns xs) key
+  pub is : {q : Pass} {ns : List rules.Node} {xs : List ℕ} → Arena w q ns → Taken (firstOf n ms) xs (length ns) → AllSets ns xs
+      → r ≡ optionalInAll (attrsOf ns xs) key
 
 pub record OpenIfAll (w ms : List ℕ) (n r : ℕ) : Type 0 where
   pub is : {q : Pass} {ns : List rules.Node} {xs : List ℕ} → Arena w q ns → Taken (firstOf n ms) xs (length ns) → AllSets ns xs → r ≡ openIfAll (attrsOf ns xs)
 
 -- the words of a set before its open flag
-abbrev pub frontWords : List Field → Maybe ℕ → List ℕ
+abbrev pub frontWords : List Field → Option ℕ → List ℕ
 frontWords fs d = 4 ∷ length fs ∷ (fieldWords fs ++ dynWords d)
 
 pub record WritesFields (w : List ℕ) (t : ℕ) (held : List ℕ) (g : Merging) (w′ : List ℕ) (r : ℕ) : Type 0 where
-  pub is : {fs : List Field} {d : Maybe ℕ} {k : ℕ} → Got held g fs d k → t ≤ highest → Written t w w′ (frontWords fs d)
-  pub size : {fs : List Field} {d : Maybe ℕ} {k : ℕ} → Got held g fs d k → r ≡ length (frontWords fs d)
+  pub is : {fs : List Field} {d : Option ℕ} {k : ℕ} → Got held g fs d k → t ≤ highest → Written t w w′ (frontWords fs d)
+  pub size : {fs : List Field} {d : Option ℕ} {k : ℕ} → Got held g fs d k → r ≡ length (frontWords fs d)
 
 pub record PutsIf (w : List ℕ) (o k x : ℕ) (b : Bool) (w′ : List ℕ) (r : ℕ) : Type 0 where
   pub is : {w₀ xs : List ℕ} → Written o w₀ w xs → k ≡ length xs → Written o w₀ w′ (xs ++ if b (λ _. x ∷ []) (λ _. []))
@@ -259,21 +262,22 @@ abbrev pub optionalKeys : List Attr → List Field → List ℕ
 optionalKeys ts fs = filter (optionalInAll ts) (fieldKeys fs)
 
 pub record WritesOptional (w : List ℕ) (o : ℕ) (held : List ℕ) (g : Merging) (m : Members) (w′ : List ℕ) (r : ℕ) : Type 0 where
-  pub is : {q : Pass} {ns : List rules.Node} {xs : List ℕ} {fs : List Field} {d : Maybe ℕ} {k : ℕ} → Arena w q ns → Taken m xs (length ns) → AllSets ns xs
+  pub is : {q : Pass} {ns : List rules.Node} {xs : List ℕ} {fs : List Field} {d : Option ℕ} {k : ℕ} → Arena w q ns → Taken m xs (length ns) → AllSets ns xs
       → Got held g fs d k → cell w (q .nodes) ≤ o → Written o w w′ (optionalKeys (attrsOf ns xs) fs)
-  pub size : {q : Pass} {ns : List rules.Node} {xs : List ℕ} {fs : List Field} {d : Maybe ℕ} {k : ℕ} → Arena w q ns → Taken m xs (length ns) → AllSets ns xs
+  pub size : {q : Pass} {ns : List rules.Node} {xs : List ℕ} {fs : List Field} {d : Option ℕ} {k : ℕ} → Arena w q ns → Taken m xs (length ns) → AllSets ns xs
       → Got held g fs d k → cell w (q .nodes) ≤ o → r ≡ length (optionalKeys (attrsOf ns xs) fs)
 
 -- what the sets ts come to, with these fields and this dyn
-abbrev pub mergedNode : List Attr → List Field → Maybe ℕ → rules.Node
+abbrev pub mergedNode : List Attr → List Field → Option ℕ → rules.Node
 mergedNode ts fs d = AttrSet (record { fields = fs; dyn = d; isOpen = openIfAll ts; optional = optionalKeys ts fs })
 
 pub record StoresMerged (w held : List ℕ) (q : Pass) (g : Merging) (m : Members) (w′ : List ℕ) (r : Given) : Type 0 where
-  pub is : {st : State} {xs : List ℕ} {fs : List Field} {d : Maybe ℕ} → Stands st w q → Taken m xs (q .nodes) → AllSets (st .nodes) xs
+  pub is : {st : State} {xs : List ℕ} {fs : List Field} {d : Option ℕ} → Stands st w q → Taken m xs (q .nodes) → AllSets (st .nodes) xs
       → Got held g fs d (q .nodes) → Stores (store (mergedNode (attrsOf (st .nodes) xs) fs d) st) w′ r
 
 -- the others, and behind them the node that the sets ts come to
 pub record MergedLast (w held : List ℕ) (d : Merged) (m n : Members) (w′ : List ℕ) (r : Listed) : Type 0 where
-  pub is : (before : Then → Out ℕ) (st : State) (h : ℕ) {xs ys : List ℕ} → AnswersMerged before [] st w held h d → Taken m xs (length (st .nodes)) → AllSets (st .nodes) xs
+  pub is : (before : Then → Out ℕ) (st : State) (h : ℕ) {xs ys : List ℕ} → AnswersMerged before [] st w held h d → Taken m xs (length (st .nodes))
+      → AllSets (st .nodes) xs
       → Few n ys → length ys < mostMembers → Under (length (st .nodes)) ys
       → Answers (bind (before (λ fs d. store (mergedNode (attrsOf (st .nodes) xs) fs d))) (λ x. give (ys ++ (x ∷ [])))) w′ r

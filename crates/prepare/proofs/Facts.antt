@@ -7,8 +7,9 @@ use Prim.Native.Nat.{ℕ, zero, suc, _+_, _-_, _≤_, _<_}
 use native.Mathlib.Omega.{arith}
 use native.Mathlib.Nat.{eq-or-lt-of-le}
 use native.Mathlib.Numerals.{add-one}
-use mathlib.Core.List.{List, [], _∷_}
-use lib.ListN.{length, drop, set, length-set, length-drop, List·getD-eq-default}
+use mathlib.Core.List.{List, [], _∷_, map}
+use mathlib.Core.Option.{some, Option·getD}
+use lib.ListN.{length, getD, drop, set, length-set, length-drop, List·getD-eq-default}
 use lib.Seq.{getD-set-same, getD-set-other}
 use lib.Dec.{eqb, ltb}
 use borrow.Author.Tests.{ltb-true, ltb-false, lt-ltb, le-ltb, eqb-true, eqb-false}
@@ -16,26 +17,26 @@ use Rattle.cells.specs.Part.{run, cell, part, if, eqList}
 use Rattle.cells.specs.Sum.{Sum}
 use Rattle.cells.proofs.Parts.{run-at, run-length, run-next, run-none, run-whole, run-getD, run-ext, eqList-same, eqList-other, eqList-longer}
 use Rattle.layout.specs.Layout.{marksAt, preservedAt, rowsAt, tableWords, tableLength}
-use Rattle.rules.specs.Plain.{any}
+use Rattle.rules.specs.Plain.{find, any}
 use Rattle.rules.specs.Ceilings.{mostNames, mostEntries, mostPairs, mostMarks, mostRoots}
-use Rattle.rules.specs.Table.{repIn, joinPairs, upward, representatives, accepted, tableOf}
+use Rattle.rules.specs.Table.{Pair, Root, pairOf, rootOf, fromSections, repIn, joinPairs, upward, representatives, accepted, tableOf}
 use Rattle.rules.specs.Table as rules
-use Rattle.rules.specs.Run.{readerOf, nameNumber, firstPass}
-use Rattle.rules.proofs.Told.{by-branch}
-use Rattle.rules.proofs.Admitting.{by-test}
-use Rattle.rules.proofs.Joining.{representative-below}
-use Rattle.rules.proofs.Accepting.{accepted-tabled}
+use Rattle.rules.specs.Canonicalizer.{readerOf, functorNumber, firstPass}
+use Rattle.laws.proofs.Told.{by-branch}
+use Rattle.laws.proofs.Admitting.{by-test}
+use Rattle.laws.proofs.Joining.{representative-below}
+use Rattle.laws.proofs.Accepting.{accepted-tabled, accepted-root}
 use Rattle.text.specs.Reads.{span}
 use Rattle.text.proofs.Spans.{span-length}
 use Rattle.table.specs.declared.Table.{Table}
 use Rattle.table.specs.declared.Answer.the-variants.{Accepted}
-use Rattle.table.specs.Rows.{Few, beginAt, rowAt, bare, tableFrom, rows, Read}
+use Rattle.table.specs.Rows.{Few, beginAt, rowAt, tableFrom, rows, Read}
 use Rattle.storage.specs.declared.given.Canon.{Canon}
 use Rattle.storage.specs.Passes.{Reps, Knows}
-use Rattle.storage.specs.Equivs.{pairsIn, Behind, Represents}
+use Rattle.storage.specs.Equivs.{pairAt, pairsIn, Behind, Represents}
 use Rattle.storage.proofs.Alike.{Alike}
 use Rattle.prepare.specs.declared.Prepared.{Prepared}
-use Rattle.prepare.specs.Prepares.{Number, FirstEntry, FirstPair, FirstMark, FirstRoot, mark, markAll, marksIn, SetsMark, SetsMarks, functorName, IsFunctor, Functor, Budget, Prepares}
+use Rattle.prepare.specs.Prepares.{Number, FirstEntry, FirstPair, FirstMark, FirstRoot, mark, markAll, marksIn, rootAt, rootsIn, SetsMark, SetsMarks, functorName, IsFunctor, Functor, Budget, Prepares}
 use Rattle.prepare.proofs.Prepares.{AllOf, Long, read-kept, same-table, rows-formed, many, reads-table}
 
 -- the first rows
@@ -149,7 +150,7 @@ module _ {table₀ : List ℕ} {first entries n : ℕ} where
   }
 
 -- the words of a row behind the first
-drop-run : {A : Type 0} (f : ℕ → A) (a n : ℕ) → drop 1 (run f a n) ≡ run f (a + 1) (n - 1)
+pub drop-run : {A : Type 0} (f : ℕ → A) (a n : ℕ) → drop 1 (run f a n) ≡ run f (a + 1) (n - 1)
 drop-run f a zero = refl
 drop-run f a (suc n) = run-at f (suc a) (a + 1) n (suc n - 1) (sym (add-one a)) (omega arith)
 
@@ -217,21 +218,31 @@ module _ {table : List ℕ} {a : ℕ} where
 abbrev bareAt : List ℕ → ℕ → List ℕ
 bareAt table i = drop 1 (rowAt table i)
 
+-- the number of the first of these names that is `__functor`, counted from i; past all names where there is none
+abbrev isFunctorName : List ℕ → Bool
+isFunctorName name = eqList name functorName
+
+abbrev numberFrom : ℕ → ℕ → List (List ℕ) → ℕ
+numberFrom names i l = Option·getD (find isFunctorName i l) names
+
 -- names searched one after another: what is left to search says the same as all of them
 pub record Seeking (table : List ℕ) (names i : ℕ) : Type 0 where
-  pub few : i ≤ names
   pub is : ((k : ℕ) → k ≤ names → beginAt table k ≤ tableLength)
-      → nameNumber functorName i (run (bareAt table) (1 + i) (names - i)) ≡ nameNumber functorName 0 (run (bareAt table) 1 names)
+      → numberFrom names i (run (bareAt table) (1 + i) (names - i)) ≡ functorNumber (run (bareAt table) 1 names)
 
 module _ {table : List ℕ} {names : ℕ} where
   pub seeking-start : Seeking table names 0
-  seeking-start = record { few = omega arith; is = λ _. ap (nameNumber functorName 0) (run-whole (bareAt table) 1 names) }
+  seeking-start = record {
+    is = λ _.
+        ap (numberFrom names 0) (run-whole (bareAt table) 1 names)
+        ∙ ap (Option·getD (find isFunctorName 0 (run (bareAt table) 1 names))) (sym (run-length (bareAt table) 1 names));
+  }
 
   module _ {i p q a e : ℕ} {r : Bool} (inv : Seeking table names i) (lt : i < names) (from : p ≡ rowsAt + 1 + i) (at : a ≡ cell table p)
       (to : q ≡ rowsAt + 2 + i) (end : e ≡ cell table q) (said : IsFunctor table a e r) where
     seek-next : ((k : ℕ) → k ≤ names → beginAt table k ≤ tableLength)
-        → if r (λ _. i) (λ _. nameNumber functorName (suc i) (run (bareAt table) (1 + (i + 1)) (names - (i + 1))))
-          ≡ nameNumber functorName 0 (run (bareAt table) 1 names)
+        → Option·getD (if r (λ _. some i) (λ _. find isFunctorName (suc i) (run (bareAt table) (1 + (i + 1)) (names - (i + 1))))) names
+          ≡ functorNumber (run (bareAt table) 1 names)
     seek-next within =
         let rest = run (bareAt table) (1 + (i + 1)) (names - (i + 1)) in
         let first : a ≡ beginAt table (1 + i) = at ∙ ap (cell table) (omega arith) in
@@ -239,9 +250,9 @@ module _ {table : List ℕ} {names : ℕ} where
         let low = within (1 + i) (omega arith) in
         let name : drop 1 (span table a e) ≡ bareAt table (1 + i) =
         ap₂ {C = List ℕ} (λ (x y : ℕ). drop 1 (span table x y)) first last in
-        ap (λ (b : Bool). if b (λ _. i) (λ _. nameNumber functorName (suc i) rest))
-        (said .is (omega arith) ∙ ap (λ (l : List ℕ). eqList l functorName) name)
-        ∙ ap (nameNumber functorName i) (sym (run-next (bareAt table) 1 names i lt))
+        ap (λ (b : Bool). Option·getD (if b (λ _. some i) (λ _. find isFunctorName (suc i) rest)) names)
+        (said .is (omega arith) ∙ ap isFunctorName name)
+        ∙ ap (numberFrom names i) (sym (run-next (bareAt table) 1 names i lt))
         ∙ inv .is within
 
   pub seeking-here : {i p q a e : ℕ} {r : Bool} → Seeking table names i → i < names → p ≡ rowsAt + 1 + i → a ≡ cell table p
@@ -252,17 +263,14 @@ module _ {table : List ℕ} {names : ℕ} where
   pub seeking-more : {i p q a e : ℕ} {r : Bool} → Seeking table names i → i < names → p ≡ rowsAt + 1 + i → a ≡ cell table p
       → q ≡ rowsAt + 2 + i → e ≡ cell table q → IsFunctor table a e r → r ≡ false → Seeking table names (i + 1)
   seeking-more {i} {a = a} {e = e} inv lt from at to end said z = record {
-    few = omega arith;
     is = λ within.
-        ap (λ (k : ℕ). nameNumber functorName k (run (bareAt table) (1 + (i + 1)) (names - (i + 1)))) (add-one i)
+        ap (λ (k : ℕ). numberFrom names k (run (bareAt table) (1 + (i + 1)) (names - (i + 1)))) (add-one i)
         ∙ seek-next inv lt from at to end (subst (IsFunctor table a e) z said) within;
   }
 
   pub seeking-done : {i : ℕ} → Seeking table names i → names ≤ i → Functor table names names
   seeking-done {i} inv le = record {
-    is = λ within.
-        let z : names ≡ i = omega (arith, inv .few) in
-        z ∙ ap (nameNumber functorName i) (sym (run-none (bareAt table) 1 names i le)) ∙ inv .is within;
+    is = λ within. ap (numberFrom names i) (sym (run-none (bareAt table) 1 names i le)) ∙ inv .is within;
   }
 
 -- the budget
@@ -315,10 +323,10 @@ module _ (entries id : ℕ) (lt : id < entries) where
       let l = mark-length entries table m in
       marks-said ids (mark entries table m) (omega arith) ∙ said-turn (eqb m id) (any (λ (x : ℕ). eqb x id) ids) table m refl le
 
--- rows without their first words
-bare-run : (table : List ℕ) (a n : ℕ) → bare (run (rowAt table) a n) ≡ run (bareAt table) a n
-bare-run table a zero = refl
-bare-run table a (suc n) = ap (λ (l : List (List ℕ)). bareAt table a ∷ l) (bare-run table (suc a) n)
+-- what is made of each value of a run
+pub map-run : {A B : Type 0} (f : A → B) (g : ℕ → A) (a n : ℕ) → map f (run g a n) ≡ run (λ (i : ℕ). f (g i)) a n
+map-run f g a zero = refl
+map-run {B = B} f g a (suc n) = ap (λ (l : List B). f (g a) ∷ l) (map-run f g (suc a) n)
 
 bare-words : (table : List ℕ) (i n : ℕ) → Long n (bareAt table i) → bareAt table i ≡ part table (beginAt table i + 1) n
 bare-words table i n h =
@@ -332,10 +340,10 @@ bare-two : (table : List ℕ) (i : ℕ) → Long 2 (bareAt table i)
 bare-two table i h =
     bare-words table i 2 h ∙ ap (λ (k : ℕ). cell table (beginAt table i + 1) ∷ cell table k ∷ []) (omega arith)
 
--- by the places of their beginnings
-run-places : {A : Type 0} (f : ℕ → A) (a b n : ℕ) → rowsAt + a ≡ b → run (λ (i : ℕ). f (rowsAt + i)) a n ≡ run f b n
-run-places f a b zero e = refl
-run-places {A} f a b (suc n) e = ap₂ {C = List A} _∷_ (ap f e) (run-places f (suc a) (suc b) n (omega arith))
+-- counted from c on
+pub run-places : {A : Type 0} (f : ℕ → A) (c a b n : ℕ) → c + a ≡ b → run (λ (i : ℕ). f (c + i)) a n ≡ run f b n
+run-places f c a b zero e = refl
+run-places {A} f c a b (suc n) e = ap₂ {C = List A} _∷_ (ap f e) (run-places f c (suc a) (suc b) n (omega arith))
 
 all-run : (P : List ℕ → Type 0) (f : ℕ → List ℕ) (a n : ℕ) → AllOf P (run f a n) → (k : ℕ) → a ≤ k → k < a + n → P (f k)
 all-run P f a zero h k p q = absurd (omega arith)
@@ -344,19 +352,14 @@ all-run P f a (suc n) h k p q =
     (λ (lt : a < k). all-run P f (suc a) n (h .1) k (omega arith) (omega arith))
     (eq-or-lt-of-le p)
 
-any-marks : (f : ℕ → ℕ) (a n id : ℕ)
-    → any (λ (m : List ℕ). eqb (cell m 0) id) (run (λ (i : ℕ). f i ∷ []) a n) ≡ any (λ (m : ℕ). eqb m id) (run f a n)
-any-marks f a zero id = refl
-any-marks f a (suc n) id = ap (λ (b : Bool). if (eqb (f a) id) (λ _. true) (λ _. b)) (any-marks f (suc a) n id)
-
 rep-turn : (b : Bool) (table : List ℕ) (n id : ℕ) → ltb id n ≡ b → repIn (part table 0 n) id ≡ if b (λ _. cell table id) (λ _. id)
 rep-turn true table n id e = run-getD (cell table) 0 n id id (ltb-true id n e) ∙ ap (cell table) (omega arith)
 rep-turn false table n id e =
     List·getD-eq-default (part table 0 n) id (let l = run-length (cell table) 0 n in let f = ltb-false id n e in omega arith)
 
--- the pairs and the marks of a table that was read, as the code reads them, and that they lie behind the facts
+-- the pairs, the marks and the roots of a table that was read, as the code reads them, and that pairs and marks lie behind the facts
 module _ (text table : List ℕ) (t : Table) (T : rules.Table) (rd : Read text table (Accepted t)) (e : tableOf text ≡ accepted T) where
-  table-is : T ≡ tableFrom t table
+  table-is : T ≡ fromSections (tableFrom t table)
   table-is = same-table text table t T rd e
 
   abbrev firstPair : ℕ
@@ -369,21 +372,41 @@ module _ (text table : List ℕ) (t : Table) (T : rules.Table) (rd : Read text t
   unfolding tableFrom
   pairs-are =
       let first = 1 + t .names + t .entries in let n = t .pairs in
-      let here : T .pairs ≡ run (bareAt table) first n = ap (λ (u : rules.Table). u .pairs) table-is ∙ bare-run table first n in
-      here
-      ∙ run-ext (bareAt table) _ first n
-      (λ k p q. bare-two table k (all-run (Long 2) (bareAt table) first n (subst (AllOf (Long 2)) here (rows-formed text table t T rd e .pairs)) k p q))
-      ∙ run-places (λ (i : ℕ). cell table (cell table i + 1) ∷ cell table (cell table i + 2) ∷ []) first firstPair n (omega arith)
+      let bare-rows = map-run (drop 1) (rowAt table) first n in
+      ap (λ (u : rules.Table). u .pairs) table-is
+      ∙ ap (map pairOf) bare-rows
+      ∙ map-run pairOf (bareAt table) first n
+      ∙ run-ext (λ (i : ℕ). pairOf (bareAt table i)) _ first n
+      (λ k p q. ap pairOf (bare-two table k (all-run (Long 2) (bareAt table) first n (subst (AllOf (Long 2)) bare-rows (rows-formed text table t T rd e .pairs)) k p q)))
+      ∙ run-places (pairAt table) rowsAt first firstPair n (omega arith)
 
-  marks-are : T .marks ≡ run (λ (i : ℕ). idAt table i ∷ []) firstMark (t .marks)
+  marks-are : T .marks ≡ marksIn table firstMark (t .marks)
   unfolding tableFrom
   marks-are =
       let first = 1 + t .names + t .entries + t .pairs in let n = t .marks in
-      let here : T .marks ≡ run (bareAt table) first n = ap (λ (u : rules.Table). u .marks) table-is ∙ bare-run table first n in
-      here
-      ∙ run-ext (bareAt table) _ first n
-      (λ k p q. bare-words table k 1 (all-run (Long 1) (bareAt table) first n (subst (AllOf (Long 1)) here (rows-formed text table t T rd e .marks)) k p q))
-      ∙ run-places (λ (i : ℕ). idAt table i ∷ []) first firstMark n (omega arith)
+      let bare-rows = map-run (drop 1) (rowAt table) first n in
+      ap (λ (u : rules.Table). u .marks) table-is
+      ∙ ap (map (λ (row : List ℕ). cell row 0)) bare-rows
+      ∙ map-run (λ (row : List ℕ). cell row 0) (bareAt table) first n
+      ∙ run-ext (λ (i : ℕ). cell (bareAt table i) 0) _ first n
+      (λ k p q. ap (λ (row : List ℕ). cell row 0)
+      (bare-words table k 1 (all-run (Long 1) (bareAt table) first n (subst (AllOf (Long 1)) bare-rows (rows-formed text table t T rd e .marks)) k p q)))
+      ∙ run-places (idAt table) rowsAt first firstMark n (omega arith)
+
+  abbrev firstRoot : ℕ
+  firstRoot = rowsAt + 1 + t .names + t .entries + t .pairs + t .marks
+
+  pub roots-are : T .roots ≡ rootsIn table firstRoot (t .roots)
+  unfolding tableFrom
+  roots-are =
+      let first = 1 + t .names + t .entries + t .pairs + t .marks in let n = t .roots in
+      let bare-rows = map-run (drop 1) (rowAt table) first n in
+      ap (λ (u : rules.Table). u .roots) table-is
+      ∙ ap (map rootOf) bare-rows
+      ∙ map-run rootOf (bareAt table) first n
+      ∙ run-ext (λ (i : ℕ). rootOf (bareAt table i)) _ first n
+      (λ k p q. ap rootOf (bare-two table k (all-run (Long 2) (bareAt table) first n (subst (AllOf (Long 2)) bare-rows (rows-formed text table t T rd e .roots)) k p q)))
+      ∙ run-places (rootAt table) rowsAt first firstRoot n (omega arith)
 
   row-behind : (k i : ℕ) → k ≡ rowsAt + i → i ≤ rows t → tableWords ≤ cell table k
   row-behind k i z le = omega (arith, ap (cell table) z, rd .laid .behind i le)
@@ -435,7 +458,7 @@ module _ (text table₀ table₁ table₂ : List ℕ) (t : Table) (T : rules.Tab
       run-ext (cell table₂) (cell table₁) 0 (c .count) (λ k p q. beside k (λ m lt z. omega arith))
       ∙ ap (part table₁ 0) count
       ∙ rep .is (omega arith) (pairs-behind text table₀ t T rd₀ e)
-      ∙ ap₂ {C = List ℕ} (λ (n : ℕ) (ps : List (List ℕ)). joinPairs (upward 0 n) ps) (sym (entries-many ∙ count)) (sym (pairs-are text table₀ t T rd₀ e))
+      ∙ ap₂ {C = List ℕ} (λ (n : ℕ) (ps : List Pair). joinPairs (upward 0 n) ps) (sym (entries-many ∙ count)) (sym (pairs-are text table₀ t T rd₀ e))
 
   reps-known : Reps table₂ c (firstPass T)
   unfolding firstPass
@@ -451,8 +474,7 @@ module _ (text table₀ table₁ table₂ : List ℕ) (t : Table) (T : rules.Tab
       let f = few-entries in
       let none : says table₁ id ≡ false =
       ap (λ (k : ℕ). not (eqb k 0)) (rep .kept (marksAt + id) (omega arith) ∙ zeros (marksAt + id) (omega arith)) in
-      ap (any (λ (m : List ℕ). eqb (cell m 0) id)) (marks-are text table₁ t T rd₁ e)
-      ∙ any-marks (idAt table₁) (rowsAt + 1 + t .names + t .entries + t .pairs) (t .marks) id
+      ap (any (λ (m : ℕ). eqb m id)) (marks-are text table₁ t T rd₁ e)
       ∙ sym (if-self (any (λ (m : ℕ). eqb m id) ids))
       ∙ ap (λ (b : Bool). if (any (λ (m : ℕ). eqb m id) ids) (λ _. true) (λ _. b)) (sym none)
       ∙ sym (marks-said (t .entries) id (omega arith) ids table₁ (omega arith))
@@ -464,8 +486,8 @@ module _ (text table₀ table₁ table₂ : List ℕ) (t : Table) (T : rules.Tab
       beside (preservedAt + v) (λ m h z. omega arith) ∙ rep .kept (preservedAt + v) (omega arith) ∙ zeros (preservedAt + v) (omega arith)
 
   module _ (base : c .base ≡ rowsAt + 1 + t .names) (spent : c .spent ≡ 0) (budget : c .budget ≡ cell (rowAt table₂ 0) 1)
-      (functor : c .functor ≡ nameNumber functorName 0 (run (bareAt table₂) 1 (t .names))) where
-    here : T ≡ tableFrom t table₂
+      (functor : c .functor ≡ functorNumber (run (bareAt table₂) 1 (t .names))) where
+    here : T ≡ fromSections (tableFrom t table₂)
     here = table-is text table₂ t T prepared-read e
 
     budget-known : firstPass T .budget ≡ c .budget
@@ -475,7 +497,7 @@ module _ (text table₀ table₁ table₂ : List ℕ) (t : Table) (T : rules.Tab
     functor-known : firstPass T .functor ≡ c .functor
     unfolding firstPass tableFrom
     functor-known =
-        ap (nameNumber functorName 0) (ap (λ (u : rules.Table). u .names) here ∙ bare-run table₂ 1 (t .names)) ∙ sym functor
+        ap functorNumber (ap (λ (u : rules.Table). u .names) here ∙ map-run (drop 1) (rowAt table₂) 1 (t .names)) ∙ sym functor
 
     pub pass-known : Knows table₂ c (firstPass T) (readerOf T)
     unfolding firstPass
@@ -490,6 +512,15 @@ module _ (text table₀ table₁ table₂ : List ℕ) (t : Table) (T : rules.Tab
       spent = sym spent;
       functor = functor-known;
     }
+
+-- roots that are read from a place on are entries
+roots-known : (text table : List ℕ) (T : rules.Table) (first n : ℕ) {m : ℕ} → tableOf text ≡ accepted T → T .roots ≡ rootsIn table first n
+    → length (T .entries) ≡ m → (i : ℕ) → i < n → cell table (cell table (first + i) + 1) < m
+roots-known text table T first n e h c i lt =
+    let l = ap length h ∙ run-length (rootAt table) first n in
+    let at : getD (T .roots) i (rootOf []) .id ≡ cell table (cell table (first + i) + 1) =
+    ap (λ (rs : List Root). getD rs i (rootOf []) .id) h ∙ ap (λ (r : Root). r .id) (run-getD (rootAt table) first n i (rootOf []) lt) in
+    omega (arith, accepted-root text T e i (omega arith))
 
 pub prepare-is : {table₀ table₁ table₂ : List ℕ} {t : Table} {g : Prepared} {pair pairs names : ℕ}
     → Number (t .entries) (g .canon .count) → FirstPair t pair → Number (t .pairs) pairs
@@ -511,15 +542,21 @@ prepare-is {table₀} {table₁} {table₂} {t} {g} {pair} {pairs} {names} entri
           let reps₃ =
           subst (λ (x : ℕ). Represents table₀ (t .entries) (rowsAt + 1 + t .names + t .entries) x table₁) many-pairs reps₂ in
           let read : Read text table₂ (Accepted t) = prepared-read text table₀ table₁ table₂ t T (g .canon) rd e count reps₃ same sets long zeros in
+          let many-roots : g .roots ≡ t .roots = rooted .is (omega arith) in
+          let listed : T .roots ≡ rootsIn table₂ (g .first) (g .roots) =
+          roots-are text table₂ t T read e ∙ run-at _ _ (g .first) (t .roots) (g .roots) (sym (root .is few)) (sym many-roots) in
           let low : (i : ℕ) → i ≤ 1 + t .names → beginAt table₂ i ≤ tableLength = λ i le. read .laid .within i (omega arith) in
           record {
             read = read;
             knows = pass-known text table₀ table₁ table₂ t T (g .canon) rd e count reps₃ same sets long zeros (base .is few) spent
                 (budget .is (low 0 (omega arith)))
-                (functor .is (λ i le. low i (omega arith)) ∙ ap (λ (n : ℕ). nameNumber functorName 0 (run (bareAt table₂) 1 n)) many-names);
+                (functor .is (λ i le. low i (omega arith)) ∙ ap (λ (n : ℕ). functorNumber (run (bareAt table₂) 1 n)) many-names);
             tabled = accepted-tabled text T e;
             none = none-preserved text table₀ table₁ table₂ t T (g .canon) rd e count reps₃ same sets long zeros;
+            base = base .is few;
             first = root .is few;
-            roots = rooted .is (omega arith);
+            roots = many-roots;
+            rooted = listed;
+            known = roots-known text table₂ T (g .first) (g .roots) e listed (many text table₀ t T rd e ∙ sym count);
           };
     }

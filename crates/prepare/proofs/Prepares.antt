@@ -6,20 +6,19 @@ use native.Mathlib.Nat.{not-suc-le-zero}
 use mathlib.Core.List.{List, [], _∷_, _++_}
 use lib.ListN.{length, drop, getD, length-append, length-drop}
 use lib.Dec.{eqb, ltb}
-use borrow.Author.Tests.{eqb-true}
-use Rattle.cells.specs.Part.{cell, part, run, Holds, Under}
+use borrow.Author.Tests.{eqb-true, eqb-false}
+use Rattle.cells.specs.Part.{cell, part, run}
 use Rattle.cells.proofs.Parts.{run-length, run-getD, run-ext}
 use Rattle.cells.proofs.Holding.{holds-head, holds-tail, holds-left, holds-right}
 use Rattle.layout.specs.Layout.{rowsAt, tableLength}
-use Rattle.rules.specs.Plain.{Maybe, none, some}
 use Rattle.rules.specs.Ceilings.{mostText}
 use Rattle.rules.specs.Text.{lineFeed, pieces, rowOf}
-use Rattle.rules.specs.Table.{Entry, var, prim, tyvar, list, fn, set, neg, named, inter, union, frozen, kids, entryOf, kinds, sectionOf, frozenEntry, Reading, nothing, inOrder, addRow, add, over, ascends, Taken, taken, fault, admit, inForm, step, Result, accepted, refused, then, at, begun, lines, known, entryLine, rootLine, inTable, tableOf}
+use Rattle.rules.specs.Table.{Entry, var, prim, tyvar, list, fn, set, neg, named, inter, union, frozen, kids, entryOf, kinds, sectionOf, frozenEntry, Reading, nothing, inOrder, addRow, add, over, ascends, Admission, admitted, fault, admit, inForm, step, Result, accepted, refused, then, atLine, begun, lines, known, entryLine, rootLine, inTable, sectionsOf, fromSections, tableOf}
 use Rattle.rules.specs.Table as rules
-use Rattle.rules.specs.Run.{readerOf, firstPass}
-use Rattle.rules.proofs.Told.{by-branch}
-use Rattle.rules.proofs.Admitting.{by-test, Accepts}
-use Rattle.rules.proofs.Accepting.{accepted-tabled}
+use Rattle.rules.specs.Canonicalizer.{readerOf, firstPass}
+use Rattle.laws.proofs.Told.{by-branch}
+use Rattle.laws.proofs.Admitting.{by-test, Accepts}
+use Rattle.laws.proofs.Accepting.{accepted-tabled}
 use Rattle.text.specs.Reads.{span}
 use Rattle.text.proofs.Spans.{span-length}
 use Rattle.table.specs.declared.Table.{Table}
@@ -30,6 +29,8 @@ use Rattle.storage.specs.declared.given.Canon.{Canon}
 use Rattle.storage.specs.Passes.{RestAt, EntryAt, Reads}
 use Rattle.storage.proofs.Alike.{Alike}
 use Rattle.prepare.proofs.Shapes.{restWords, rowWords, Shaped, Gives, Formal, Entered, line-entered}
+use Rattle.cells.specs.Placed.{Holds, Under}
+use mathlib.Core.Option.{Option, none, some}
 
 -- each row is so
 abbrev pub AllOf : (List ℕ → Type 0) → List (List ℕ) → Type 0
@@ -41,7 +42,7 @@ module _ (P : List ℕ → Type 0) where
   all-more [] new h s = (s, tt)
   all-more (row ∷ rows) new h s = (h .0, all-more rows new (h .1) s)
 
-  all-at : (rows : List (List ℕ)) (i : ℕ) → AllOf P rows → i < length rows → P (getD rows i [])
+  pub all-at : (rows : List (List ℕ)) (i : ℕ) → AllOf P rows → i < length rows → P (getD rows i [])
   all-at [] i h lt = absurd (not-suc-le-zero lt)
   all-at (row ∷ rows) zero h lt = h .0
   all-at (row ∷ rows) (suc i) h lt = all-at rows i (h .1) (omega arith)
@@ -50,33 +51,36 @@ module _ (P : List ℕ → Type 0) where
 abbrev pub Long : ℕ → List ℕ → Type 0
 Long n row = length row ≡ n
 
--- the entries of a table are shaped, its pairs have two ids and its marks one
-pub record Formed (t : rules.Table) : Type 0 where
+-- the entries of a table are shaped, its pairs have two ids, its marks one, and its roots an id and a sign
+pub record Formed (t : rules.Sections) : Type 0 where
   pub entries : AllOf Shaped (t .entries)
   pub pairs : AllOf (Long 2) (t .pairs)
   pub marks : AllOf (Long 1) (t .marks)
+  pub roots : AllOf (Long 2) (t .roots)
 
 bare-long : (n : ℕ) (row : List ℕ) → length row ≡ suc n → length (drop 1 row) ≡ n
 bare-long n row e = let d = length-drop 1 row in omega arith
 
-formed-added : (t : rules.Table) (s : ℕ) (row : List ℕ) → Formed t → Formal s row → Formed (addRow t s row)
+formed-added : (t : rules.Sections) (s : ℕ) (row : List ℕ) → Formed t → Formal s row → Formed (addRow t s row)
 formed-added t s row h f =
-    by-branch Formed (eqb s 0) _ _ (record { entries = h .entries; pairs = h .pairs; marks = h .marks })
-    (by-branch Formed (eqb s 1) _ _ (record { entries = h .entries; pairs = h .pairs; marks = h .marks })
-    (by-test Formed (eqb s 2) _ _
+    by-test Formed (eqb s 0) _ _ (λ _. record { entries = h .entries; pairs = h .pairs; marks = h .marks; roots = h .roots })
+    (λ n₀. by-test Formed (eqb s 1) _ _ (λ _. record { entries = h .entries; pairs = h .pairs; marks = h .marks; roots = h .roots })
+    (λ n₁. by-test Formed (eqb s 2) _ _
     (λ e. let l = f .entry (eqb-true s 2 e) in
-    record { entries = all-more Shaped (t .entries) row (h .entries) l; pairs = h .pairs; marks = h .marks })
-    (λ _. by-test Formed (eqb s 3) _ _
+    record { entries = all-more Shaped (t .entries) row (h .entries) l; pairs = h .pairs; marks = h .marks; roots = h .roots })
+    (λ n₂. by-test Formed (eqb s 3) _ _
     (λ e. let l = bare-long 2 row (f .pair (eqb-true s 3 e)) in
-    record { entries = h .entries; pairs = all-more (Long 2) (t .pairs) (drop 1 row) (h .pairs) l; marks = h .marks })
-    (λ _. by-test Formed (eqb s 4) _ _
+    record { entries = h .entries; pairs = all-more (Long 2) (t .pairs) (drop 1 row) (h .pairs) l; marks = h .marks; roots = h .roots })
+    (λ n₃. by-test Formed (eqb s 4) _ _
     (λ e. let l = bare-long 1 row (f .mark (eqb-true s 4 e)) in
-    record { entries = h .entries; pairs = h .pairs; marks = all-more (Long 1) (t .marks) (drop 1 row) (h .marks) l })
-    (λ _. record { entries = h .entries; pairs = h .pairs; marks = h .marks })))))
+    record { entries = h .entries; pairs = h .pairs; marks = all-more (Long 1) (t .marks) (drop 1 row) (h .marks) l; roots = h .roots })
+    (λ n₄. let last : 5 ≤ s = omega (arith, eqb-false s 0 n₀, eqb-false s 1 n₁, eqb-false s 2 n₂, eqb-false s 3 n₃, eqb-false s 4 n₄) in
+    let l = bare-long 2 row (f .root last) in
+    record { entries = h .entries; pairs = h .pairs; marks = h .marks; roots = all-more (Long 2) (t .roots) (drop 1 row) (h .roots) l })))))
 
 -- what is taken has such rows
-abbrev Took : Taken → Type 0
-Took (taken r) = Formed (r .table)
+abbrev Took : Admission → Type 0
+Took (admitted r) = Formed (r .table)
 Took (fault k) = Unit {0}
 
 admit-formed : (r : Reading) (s : ℕ) (row : List ℕ) → Formed (r .table) → Formal s row → Took (admit r s row)
@@ -88,7 +92,7 @@ admit-formed r s row h f =
     tt))
     tt
 
-form-formed : (r : Reading) (m : Maybe (List ℕ)) → Formed (r .table) → Gives Entered m → Took (inForm r m)
+form-formed : (r : Reading) (m : Option (List ℕ)) → Formed (r .table) → Gives Entered m → Took (inForm r m)
 form-formed r none h g = tt
 form-formed r (some row) h g = admit-formed r (sectionOf (cell row 0)) row h g
 
@@ -97,9 +101,9 @@ unfolding step
 step-formed r l h = form-formed r (rowOf kinds l) h (line-entered l)
 
 -- what follows on what is taken
-at-then : (k : ℕ) (t : Taken) (f : Reading → Result rules.Table) → Took t
-    → ((r : Reading) → Formed (r .table) → Accepts Formed (f r)) → Accepts Formed (then (at k t) f)
-at-then k (taken r) f h g = g r h
+at-then : (k : ℕ) (t : Admission) (f : Reading → Result rules.Sections) → Took t
+    → ((r : Reading) → Formed (r .table) → Accepts Formed (f r)) → Accepts Formed (then (atLine k t) f)
+at-then k (admitted r) f h g = g r h
 at-then k (fault n) f h g = tt
 
 begun-formed : (r : Reading) (k : ℕ) → Formed (r .table) → Accepts Formed (begun r k)
@@ -111,24 +115,24 @@ lines-formed k r ([] ∷ []) h = begun-formed r k h
 lines-formed k r ((b ∷ l) ∷ []) h = tt
 lines-formed k r (l ∷ m ∷ ls) h = at-then k (step r l) _ (step-formed r l h) (λ q g. lines-formed (suc k) q (m ∷ ls) g)
 
-then-formed : {A : Type 0} (r : Result A) (f : A → Result rules.Table) → ((a : A) → Accepts Formed (f a))
+then-formed : {A : Type 0} (r : Result A) (f : A → Result rules.Sections) → ((a : A) → Accepts Formed (f a))
     → Accepts Formed (then r f)
 then-formed (accepted a) f g = g a
 then-formed (refused k l) f g = tt
 
-table-formed : (r : Result rules.Table) → Accepts Formed r → Accepts Formed (then r inTable)
+table-formed : (r : Result rules.Sections) → Accepts Formed r → Accepts Formed (then r inTable)
 unfolding inTable
 table-formed (accepted t) h =
     then-formed (known _ (entryLine t) (t .entries)) _ (λ _. then-formed (known _ (rootLine t) (t .roots)) _ (λ _. h))
 table-formed (refused k l) h = tt
 
 -- the rows of a table that is accepted are such
-pub formed : (text : List ℕ) → Accepts Formed (tableOf text)
-unfolding tableOf
+formed : (text : List ℕ) → Accepts Formed (sectionsOf text)
+unfolding sectionsOf
 formed text =
     by-branch (Accepts Formed) (ltb mostText (length text)) _ _ tt
     (table-formed (lines 1 nothing (pieces lineFeed text))
-    (lines-formed 1 nothing (pieces lineFeed text) (record { entries = tt; pairs = tt; marks = tt })))
+    (lines-formed 1 nothing (pieces lineFeed text) (record { entries = tt; pairs = tt; marks = tt; roots = tt })))
 
 -- a span of words stands where it begins
 holds-span : {w xs : List ℕ} (a b : ℕ) → span w a b ≡ xs → Holds w a xs
@@ -195,7 +199,7 @@ module _ {text w w′ : List ℕ} {t : Table} (r : Read text w (Accepted t)) (h 
 
   pub read-kept : Read text w′ (Accepted t)
   read-kept = record {
-    is = ap (λ (u : rules.Table). accepted u) table-kept ∙ r .is;
+    is = ap (λ (u : rules.Sections). accepted u) table-kept ∙ r .is;
     laid = record {
       few = r .laid .few;
       order = λ i lt. omega (arith, begin-kept i, begin-kept (i + 1), r .laid .order i lt);
@@ -205,11 +209,14 @@ module _ {text w w′ : List ℕ} {t : Table} (r : Read text w (Accepted t)) (h 
   }
 
 module _ (text w : List ℕ) (t : Table) (T : rules.Table) (r : Read text w (Accepted t)) (e : tableOf text ≡ accepted T) where
-  pub same-table : T ≡ tableFrom t w
-  same-table = let z : accepted (tableFrom t w) ≡ accepted T = r .is ∙ e in cc
+  pub same-table : T ≡ fromSections (tableFrom t w)
+  unfolding tableOf
+  same-table =
+      let z : accepted (fromSections (tableFrom t w)) ≡ accepted T =
+      ap (λ (s : Result rules.Sections). then s (λ (u : rules.Sections). accepted (fromSections u))) (r .is) ∙ e in cc
 
-  pub rows-formed : Formed T
-  rows-formed = subst (Accepts Formed) e (formed text)
+  pub rows-formed : Formed (tableFrom t w)
+  rows-formed = subst (Accepts Formed) (sym (r .is)) (formed text)
 
   entries-run : T .entries ≡ run (rowAt w) (1 + t .names) (t .entries)
   unfolding tableFrom
@@ -218,7 +225,7 @@ module _ (text w : List ℕ) (t : Table) (T : rules.Table) (r : Read text w (Acc
   pub many : length (T .entries) ≡ t .entries
   many = ap length entries-run ∙ run-length (rowAt w) (1 + t .names) (t .entries)
 
-  row-at : (id : ℕ) → id < t .entries → getD (T .entries) id [] ≡ rowAt w (1 + t .names + id)
+  pub row-at : (id : ℕ) → id < t .entries → getD (T .entries) id [] ≡ rowAt w (1 + t .names + id)
   row-at id lt =
       ap (λ (l : List (List ℕ)). getD l id []) entries-run ∙ run-getD (rowAt w) (1 + t .names) (t .entries) id [] lt
 
@@ -228,7 +235,7 @@ module _ (text w : List ℕ) (t : Table) (T : rules.Table) (r : Read text w (Acc
       let low = r .laid .within (1 + t .names + id) (omega arith) in
       let high = r .laid .within (1 + t .names + id + 1) (omega arith) in
       entry-at w (getD (T .entries) id []) (beginAt w (1 + t .names + id)) (beginAt w (1 + t .names + id + 1)) (row-at id lt) low high
-      (all-at Shaped (T .entries) id (rows-formed .entries) (omega arith))
+      (all-at Shaped (T .entries) id (subst (λ (u : rules.Table). AllOf Shaped (u .entries)) (sym same-table) (rows-formed .entries)) (omega arith))
 
   ids-known : (id : ℕ) → id < length (T .entries) → Under (length (T .entries)) (kids (readerOf T id))
   unfolding firstPass

@@ -6,14 +6,16 @@ use native.Mathlib.Omega.{arith}
 use mathlib.Core.List.{List, [], _∷_, _++_, append-nil, append-assoc}
 use lib.ListN.{length}
 use lib.Dec.{leb}
-use Rattle.cells.specs.Part.{eqList, cell, part, Holds}
+use Rattle.cells.specs.Part.{eqList, cell, part}
 use Rattle.cells.proofs.Holding.{holds-place, holds-head, holds-tail, holds-left, holds-right, holds-end}
-use Rattle.rules.specs.Plain.{Maybe, none, some, _>>=_, given}
+use Rattle.rules.specs.Plain.{ascii, _>>=_, given}
 use Rattle.rules.specs.Text.{comma, colon, tab, dash, pieces, number, elements, listOf, single, keyed, upTo, dynOf, aNumber, aCode, aFlag, aList, aDyn, someFields, aSign, aName, fieldOf, byShape, Kind, tagged, recordIn, byWord, rowOf}
 use Rattle.rules.specs.Table.{Field, Attr, Entry, var, prim, tyvar, list, fn, set, neg, named, inter, union, frozen, kinds, sectionOf, entryOf, entryKind}
 use Rattle.rules.specs.Types.{fieldWords, dynWords, attrWords}
-use Rattle.rules.proofs.Rows.{field-words-length, set-read}
-use Rattle.rules.proofs.Told.{by-branch}
+use Rattle.laws.proofs.Rows.{field-words-length, set-read}
+use Rattle.laws.proofs.Told.{by-branch}
+use Rattle.cells.specs.Placed.{Holds}
+use mathlib.Core.Option.{Option, none, some}
 
 -- the words behind the kind of an entry
 abbrev pub restWords : Entry → List ℕ
@@ -76,16 +78,16 @@ shaped : {row : List ℕ} (e : Entry) → row ≡ rowWords e → Shaped row
 shaped e h = record { is = h ∙ ap rowWords (sym (ap entryOf h ∙ entry-read e)) }
 
 -- what is given, if anything, is so
-abbrev pub Gives : {A : Type 0} → (A → Type 0) → Maybe A → Type 0
+abbrev pub Gives : {A : Type 0} → (A → Type 0) → Option A → Type 0
 Gives P none = Unit {0}
 Gives P (some a) = P a
 
-gives-then : {A B : Type 0} (P : A → Type 0) (Q : B → Type 0) (m : Maybe A) (f : A → Maybe B)
+gives-then : {A B : Type 0} (P : A → Type 0) (Q : B → Type 0) (m : Option A) (f : A → Option B)
     → Gives P m → ((a : A) → P a → Gives Q (f a)) → Gives Q (m >>= f)
 gives-then P Q none f h g = tt
 gives-then P Q (some a) f h g = g a h
 
-gives-each : {A B : Type 0} (Q : B → Type 0) (m : Maybe A) (f : A → Maybe B) → ((a : A) → Gives Q (f a)) → Gives Q (m >>= f)
+gives-each : {A B : Type 0} (Q : B → Type 0) (m : Option A) (f : A → Option B) → ((a : A) → Gives Q (f a)) → Gives Q (m >>= f)
 gives-each Q none f g = tt
 gives-each Q (some a) f g = g a
 
@@ -126,7 +128,7 @@ record Counted (xs : List ℕ) : Type 0 where
 
 -- a dyn
 record Dyn (xs : List ℕ) : Type 0 where
-  dyn : Maybe ℕ
+  dyn : Option ℕ
   is : xs ≡ dynWords dyn
 
 -- a set
@@ -165,7 +167,7 @@ keyed-pair (k ∷ i ∷ []) =
 keyed-pair (k ∷ i ∷ j ∷ js) = tt
 
 -- a field as it is read
-abbrev keyedIn : List ℕ → Maybe (List ℕ)
+abbrev keyedIn : List ℕ → Option (List ℕ)
 keyedIn p = keyed (pieces colon p)
 
 elements-fields : (ps : List (List ℕ)) → Gives Fields (elements keyedIn ps)
@@ -204,6 +206,12 @@ dyn-field : (p : List ℕ) → Gives Dyn (fieldOf aDyn p)
 unfolding fieldOf
 dyn-field p = dyn-dyn p
 
+sign-field : (p : List ℕ) → Gives One (fieldOf aSign p)
+unfolding fieldOf
+sign-field p =
+    by-branch (Gives One) (eqList p (ascii "+")) _ _ (record { it = 0; is = refl })
+    (given-one (eqList p dash) 1)
+
 some-fields : (p : List ℕ) → Gives Counted (fieldOf someFields p)
 unfolding fieldOf
 some-fields p = fields-counted p
@@ -231,6 +239,11 @@ two-numbers =
     shape-more One One Two aNumber (aNumber ∷ []) number-field (shape-last One aNumber number-field)
     (λ x xs a b. record { first = a .it; second = b .it; is = ap₂ {C = List ℕ} _++_ (a .is) (b .is) })
 
+number-and-sign : (fs : List (List ℕ)) → Gives Two (byShape (aNumber ∷ aSign ∷ []) fs)
+number-and-sign =
+    shape-more One One Two aNumber (aSign ∷ []) number-field (shape-last One aSign sign-field)
+    (λ x xs a b. record { first = a .it; second = b .it; is = ap₂ {C = List ℕ} _++_ (a .is) (b .is) })
+
 two-lists : (fs : List (List ℕ)) → Gives Bounds (byShape (aList ∷ aList ∷ []) fs)
 two-lists =
     shape-more Listed Listed Bounds aList (aList ∷ []) list-field (shape-last Listed aList list-field)
@@ -243,7 +256,7 @@ record Ending (xs : List ℕ) : Type 0 where
   is : xs ≡ isOpen ∷ length optional ∷ optional
 
 record DynEnding (xs : List ℕ) : Type 0 where
-  dyn : Maybe ℕ
+  dyn : Option ℕ
   isOpen : ℕ
   optional : List ℕ
   is : xs ≡ dynWords dyn ++ (isOpen ∷ length optional ∷ optional)
@@ -268,17 +281,18 @@ set-words =
           (sym (append-assoc (fieldWords (a .fields)) (dynWords (b .dyn)) (b .isOpen ∷ length (b .optional) ∷ b .optional)));
     })
 
--- what a row of section s is: that of the entry it says, a pair's with its two ids, a mark's with its one
+-- what a row of section s is: that of the entry it says, a pair's with its two ids, a mark's with its one, a root's with its id and sign
 pub record Formal (s : ℕ) (row : List ℕ) : Type 0 where
   pub entry : s ≡ 2 → Shaped row
   pub pair : s ≡ 3 → length row ≡ 3
   pub mark : s ≡ 4 → length row ≡ 2
+  pub root : 5 ≤ s → length row ≡ 3
 
 -- the row is as its section asks
 abbrev pub Entered : List ℕ → Type 0
 Entered row = Formal (sectionOf (cell row 0)) row
 
-entered : (Q : List ℕ → Type 0) (n : ℕ) (m : Maybe (List ℕ)) → sectionOf n ≡ 2 → Gives Q m
+entered : (Q : List ℕ → Type 0) (n : ℕ) (m : Option (List ℕ)) → sectionOf n ≡ 2 → Gives Q m
     → ((xs : List ℕ) → Q xs → Shaped (n ∷ xs)) → Gives Entered (tagged n m)
 entered Q n m s h f =
     gives-then Q Entered m _ h
@@ -286,15 +300,17 @@ entered Q n m s h f =
       entry = λ _. f xs q;
       pair = λ (e : sectionOf n ≡ 3). absurd (omega arith);
       mark = λ (e : sectionOf n ≡ 4). absurd (omega arith);
+      root = λ (e : 5 ≤ sectionOf n). absurd (omega arith);
     })
 
-outside : (n : ℕ) (m : Maybe (List ℕ)) → (2 ≤ sectionOf n → 4 < sectionOf n) → Gives Entered (tagged n m)
+outside : (n : ℕ) (m : Option (List ℕ)) → sectionOf n < 2 → Gives Entered (tagged n m)
 outside n m f =
     gives-each Entered m _
     (λ xs. record {
-      entry = λ (e : sectionOf n ≡ 2). let z = f (omega arith) in absurd (omega arith);
-      pair = λ (e : sectionOf n ≡ 3). let z = f (omega arith) in absurd (omega arith);
-      mark = λ (e : sectionOf n ≡ 4). let z = f (omega arith) in absurd (omega arith);
+      entry = λ (e : sectionOf n ≡ 2). absurd (omega arith);
+      pair = λ (e : sectionOf n ≡ 3). absurd (omega arith);
+      mark = λ (e : sectionOf n ≡ 4). absurd (omega arith);
+      root = λ (e : 5 ≤ sectionOf n). absurd (omega arith);
     })
 
 pair-entered : (n : ℕ) → sectionOf n ≡ 3 → (fs : List (List ℕ)) → Gives Entered (tagged n (byShape (aNumber ∷ aNumber ∷ []) fs))
@@ -304,6 +320,7 @@ pair-entered n s fs =
       entry = λ (e : sectionOf n ≡ 2). absurd (omega arith);
       pair = λ _. ap (λ (l : List ℕ). suc (length l)) (o .is);
       mark = λ (e : sectionOf n ≡ 4). absurd (omega arith);
+      root = λ (e : 5 ≤ sectionOf n). absurd (omega arith);
     })
 
 mark-entered : (n : ℕ) → sectionOf n ≡ 4 → (fs : List (List ℕ)) → Gives Entered (tagged n (byShape (aNumber ∷ []) fs))
@@ -313,6 +330,17 @@ mark-entered n s fs =
       entry = λ (e : sectionOf n ≡ 2). absurd (omega arith);
       pair = λ (e : sectionOf n ≡ 3). absurd (omega arith);
       mark = λ _. ap (λ (l : List ℕ). suc (length l)) (o .is);
+      root = λ (e : 5 ≤ sectionOf n). absurd (omega arith);
+    })
+
+root-entered : (n : ℕ) → sectionOf n ≡ 5 → (fs : List (List ℕ)) → Gives Entered (tagged n (byShape (aNumber ∷ aSign ∷ []) fs))
+root-entered n s fs =
+    gives-then Two Entered (byShape (aNumber ∷ aSign ∷ []) fs) _ (number-and-sign fs)
+    (λ xs o. record {
+      entry = λ (e : sectionOf n ≡ 2). absurd (omega arith);
+      pair = λ (e : sectionOf n ≡ 3). absurd (omega arith);
+      mark = λ (e : sectionOf n ≡ 4). absurd (omega arith);
+      root = λ _. ap (λ (l : List ℕ). suc (length l)) (o .is);
     })
 
 one-entered : (n : ℕ) (make : ℕ → Entry) → sectionOf n ≡ 2 → ((x : ℕ) → rowWords (make x) ≡ n ∷ x ∷ []) → (k : ℕ)
@@ -344,8 +372,8 @@ word-entered ks (w ∷ fs) h = record-entered ks 0 w fs h
 kinds-form : Forms kinds 0
 unfolding sectionOf
 kinds-form =
-    ((λ fs. outside 0 (byShape (aNumber ∷ []) fs) (λ e. omega arith)),
-    ((λ fs. outside 1 (byShape (aName ∷ []) fs) (λ e. omega arith)),
+    ((λ fs. outside 0 (byShape (aNumber ∷ []) fs) (omega arith)),
+    ((λ fs. outside 1 (byShape (aName ∷ []) fs) (omega arith)),
     ((λ fs. entered Bounds 2 (byShape (aList ∷ aList ∷ []) fs) refl (two-lists fs)
     (λ xs o. shaped (var (o .lower) (o .upper)) (ap (λ (l : List ℕ). 2 ∷ l) (o .is)))),
     (one-entered 3 prim refl (λ x. refl) aCode code-field,
@@ -362,7 +390,7 @@ kinds-form =
     (λ xs e. shaped frozen (ap (λ (l : List ℕ). 12 ∷ l) e))),
     (pair-entered 13 refl,
     (mark-entered 14 refl,
-    ((λ fs. outside 15 (byShape (aNumber ∷ aSign ∷ []) fs) (λ e. omega arith)), tt))))))))))))))))
+    (root-entered 15 refl, tt))))))))))))))))
 
 -- the row of a line that the rules' reader takes is as its section asks
 pub line-entered : (l : List ℕ) → Gives Entered (rowOf kinds l)

@@ -8,10 +8,10 @@ use lib.Dec.{ltb}
 use Rattle.cells.specs.Part.{run, cell, if, eqList}
 use Rattle.layout.specs.Layout.{marksAt, preservedAt, rowsAt, tableLength}
 use Rattle.rules.specs.Plain.{ascii}
-use Rattle.rules.specs.Table.{accepted, tableOf}
+use Rattle.rules.specs.Table.{Root, accepted, tableOf}
 use Rattle.rules.specs.Table as rules
-use Rattle.rules.specs.Run.{readerOf, nameNumber, firstPass}
-use Rattle.rules.specs.Sound.{Tabled}
+use Rattle.rules.specs.Canonicalizer.{readerOf, functorNumber, firstPass}
+use Rattle.laws.specs.Sound.{Tabled}
 use Rattle.text.specs.Reads.{span}
 use Rattle.table.specs.declared.Table.{Table}
 use Rattle.table.specs.declared.Answer.the-variants.{Accepted}
@@ -67,11 +67,18 @@ pub record IsFunctor (table : List ℕ) (a e : ℕ) (r : Bool) : Type 0 where
 -- the names are the rows from row 1 on
 pub record Functor (table : List ℕ) (names r : ℕ) : Type 0 where
   pub is : ((i : ℕ) → i ≤ names → beginAt table i ≤ tableLength)
-      → r ≡ nameNumber functorName 0 (run (λ (i : ℕ). drop 1 (rowAt table i)) 1 names)
+      → r ≡ functorNumber (run (λ (i : ℕ). drop 1 (rowAt table i)) 1 names)
 
 -- the budget is the second word of row 0
 pub record Budget (table : List ℕ) (r : ℕ) : Type 0 where
   pub is : beginAt table 0 ≤ tableLength → r ≡ cell (rowAt table 0) 1
+
+-- a root's id and sign are the second and the third word of its row
+abbrev pub rootAt : List ℕ → ℕ → Root
+rootAt table i = record { id = cell table (cell table i + 1); sign = cell table (cell table i + 2) }
+
+abbrev pub rootsIn : List ℕ → ℕ → ℕ → List Root
+rootsIn table first n = run (rootAt table) first n
 
 -- what a table that was read is prepared as: what was read stands there still, with the facts and the pass that its runs rely on
 pub record IsPrepared (text : List ℕ) (t : Table) (T : rules.Table) (table : List ℕ) (g : Prepared) : Type 0 where
@@ -79,8 +86,11 @@ pub record IsPrepared (text : List ℕ) (t : Table) (T : rules.Table) (table : L
   pub knows : Knows table (g .canon) (firstPass T) (readerOf T)
   pub tabled : Tabled (firstPass T) (readerOf T)
   pub none : (v : ℕ) → v < g .canon .count → cell table (preservedAt + v) ≡ 0
+  pub base : g .canon .base ≡ rowsAt + 1 + t .names
   pub first : g .first ≡ rowsAt + 1 + t .names + t .entries + t .pairs + t .marks
   pub roots : g .roots ≡ t .roots
+  pub rooted : T .roots ≡ rootsIn table (g .first) (g .roots)
+  pub known : (i : ℕ) → i < g .roots → cell table (cell table (g .first + i) + 1) < g .canon .count
 
 pub record Prepares (table : List ℕ) (t : Table) (table′ : List ℕ) (r : Prepared) : Type 0 where
   pub is : (text : List ℕ) (T : rules.Table) → Read text table (Accepted t) → tableOf text ≡ accepted T → tableLength ≤ length table

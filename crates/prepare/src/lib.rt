@@ -18,7 +18,7 @@ pub struct Prepared {
 }
 
 // A count as a number of a row; the greatest where it does not fit.
-fn number(n: usize) -> u32
+pub fn number(n: usize) -> u32
     ensures { λ r. ⌜ Number n r ⌝ }
 {
     if n < 4294967295 { n as u32 } else { 4294967295 }
@@ -31,13 +31,13 @@ fn first_entry(t: Table) -> u32
     add(TableSlice::ROWS + 1, number(t.names))
 }
 
-fn first_pair(t: Table) -> u32
+pub fn first_pair(t: Table) -> u32
     ensures { λ r. ⌜ FirstPair t r ⌝ }
 {
     add(first_entry(t), number(t.entries))
 }
 
-fn first_mark(t: Table) -> u32
+pub fn first_mark(t: Table) -> u32
     ensures { λ r. ⌜ FirstMark t r ⌝ }
 {
     add(first_pair(t), number(t.pairs))
@@ -108,7 +108,7 @@ fn functor(table: &[u32], names: u32) -> u32
 }
 
 // The budget: the second word of row 0, which has two in each table that was read.
-fn budget(table: &[u32]) -> u32
+pub fn budget(table: &[u32]) -> u32
     ensures { λ r. ⌜ Budget (now (table .entry)) r ⌝ }
 {
     let a = at(table, TableSlice::ROWS);

@@ -1,7 +1,10 @@
 // What the programs share: the calls with all scratch lent in full, the parts of an input, and what is written.
+ghost use mathlib.Core.Path.{_≡_};
 ghost use Prim.Native.Nat.{_≤_};
 ghost use lib.ListN.{length};
-ghost use Rattle.programs.specs.Parts.{Within};
+ghost use Rattle.layout.specs.Layout.{draftLength, tableLength, arenaLength, lineLength, workLength};
+ghost use Rattle.programs.specs.Shows.{ShowsOutcome, AnswersCanon, AnswersRecheck, AnswersParts};
+ghost use Rattle.programs.specs.Parts.{Begins, IsNext, Behind, UntilNext};
 use answers::outcome::Outcome;
 use canon_call::canon;
 use layout::ArenaSlice;
@@ -11,28 +14,40 @@ use layout::WorkSlice;
 use listing::lines;
 use recheck_call::recheck;
 
-fn draft_room() -> [u8; DraftSlice::LENGTH] {
+fn draft_room() -> [u8; DraftSlice::LENGTH]
+    ensures { λ r. ⌜ draftLength ≡ length r ⌝ }
+{
     [0u8; DraftSlice::LENGTH]
 }
 
-fn table_room() -> [u32; TableSlice::LENGTH] {
+fn table_room() -> [u32; TableSlice::LENGTH]
+    ensures { λ r. ⌜ tableLength ≡ length r ⌝ }
+{
     [0u32; TableSlice::LENGTH]
 }
 
-fn arena_room() -> [u32; ArenaSlice::LENGTH] {
+fn arena_room() -> [u32; ArenaSlice::LENGTH]
+    ensures { λ r. ⌜ arenaLength ≡ length r ⌝ }
+{
     [0u32; ArenaSlice::LENGTH]
 }
 
-fn line_room() -> [u32; ArenaSlice::LINE] {
+fn line_room() -> [u32; ArenaSlice::LINE]
+    ensures { λ r. ⌜ lineLength ≡ length r ⌝ }
+{
     [0u32; ArenaSlice::LINE]
 }
 
-fn work_room() -> [u32; WorkSlice::LENGTH] {
+fn work_room() -> [u32; WorkSlice::LENGTH]
+    ensures { λ r. ⌜ workLength ≡ length r ⌝ }
+{
     [0u32; WorkSlice::LENGTH]
 }
 
 // The answer to a table, with all scratch lent in full; the bytes to be shown stand in out.
-pub fn answer(text: &[u8], out: &mut [u8]) -> u32 {
+pub fn answer_canon(text: &[u8], out: &mut [u8]) -> u32
+    ensures { λ r. ⌜ AnswersCanon (now (text .entry)) (now (out .entry)) (now (out .exit)) r ⌝ }
+{
     let mut draft = draft_room();
     let mut table = table_room();
     let mut arena = arena_room();
@@ -42,7 +57,9 @@ pub fn answer(text: &[u8], out: &mut [u8]) -> u32 {
 }
 
 // The answer to an old table, a new one and an old listing, alike.
-fn answer_recheck(old: &[u8], new: &[u8], listing: &[u8], out: &mut [u8]) -> u32 {
+fn answer_recheck(old: &[u8], new: &[u8], listing: &[u8], out: &mut [u8]) -> u32
+    ensures { λ r. ⌜ AnswersRecheck (now (old .entry)) (now (new .entry)) (now (listing .entry)) (now (out .entry)) (now (out .exit)) r ⌝ }
+{
     let mut draft = draft_room();
     let mut old_table = table_room();
     let mut table = table_room();
@@ -53,8 +70,10 @@ fn answer_recheck(old: &[u8], new: &[u8], listing: &[u8], out: &mut [u8]) -> u32
 }
 
 // How many bytes of out are to be shown: the text that was written there, or the line `refused`.
-fn shown(r: Outcome, out: &mut [u8]) -> u32 {
-    match r {
+fn shown(outcome: Outcome, out: &mut [u8]) -> u32
+    ensures { λ r. ⌜ ShowsOutcome outcome (now (out .entry)) (now (out .exit)) r ⌝ }
+{
+    match outcome {
         Outcome::Written(n) => n,
         Outcome::Refused(number, line) => lines::refused_call(out, 0, number, line),
     }
@@ -66,29 +85,24 @@ pub struct Part {
     pub to: usize,
 }
 
-// Byte i, 0 past the end.
-fn byte(s: &[u8], i: usize) -> u8 {
-    if i < s.len() { s[i] } else { 0 }
-}
-
 // Whether a line begins at i that is `next`, with its line feed; lines begin at from.
-fn is_next(s: &[u8], from: usize, i: usize) -> bool {
-    if s.len() < i {
-        return false;
-    }
+fn is_next(s: &[u8], from: usize, i: usize) -> bool
+    requires { ⌜ i ≤ length (now s) ⌝ }
+    ensures { λ r. ⌜ IsNext (now (s .entry)) from i r ⌝ }
+{
     if !begins(&s[i..], 5, b"next\n") {
         return false;
     }
     if i <= from {
         return true;
     }
-    byte(s, i - 1) == b'\n'
+    s[i - 1] == b'\n'
 }
 
 // The part from a place on, up to the first line that is `next`, or to the end of the input.
 fn until_next(s: &[u8], from: usize) -> Part
     requires { ⌜ from ≤ length (now s) ⌝ }
-    ensures { λ r. ⌜ Within (length (now (s .entry))) r ⌝ }
+    ensures { λ r. ⌜ UntilNext (now (s .entry)) from r ⌝ }
 {
     let n = s.len();
     let mut i = from;
@@ -101,15 +115,12 @@ fn until_next(s: &[u8], from: usize) -> Part
     Part { from, to: n }
 }
 
-// Where the part behind another begins: after its line `next`, or at the end of the input.
-fn behind(s: &[u8], p: Part) -> usize
-    ensures { λ r. ⌜ r ≤ length (now (s .entry)) ⌝ }
+// Where the part behind one that ends there begins: after its line `next`, or at the end of the input.
+fn behind(s: &[u8], to: usize) -> usize
+    requires { ⌜ to ≤ length (now s) ⌝ }
+    ensures { λ r. ⌜ Behind (length (now (s .entry))) to r ⌝ }
 {
     let n = s.len();
-    let to = p.to;
-    if n <= to {
-        return n;
-    }
     if n - to < 5 {
         return n;
     }
@@ -117,13 +128,15 @@ fn behind(s: &[u8], p: Part) -> usize
 }
 
 // The answer to recheck's input: old table, a line `next`, new table, `next`, old listing. "A part left out for want of `next` is empty".
-pub fn answer_parts(input: &[u8], out: &mut [u8]) -> u32 {
+pub fn answer_parts(input: &[u8], out: &mut [u8]) -> u32
+    ensures { λ r. ⌜ AnswersParts (now (input .entry)) (now (out .entry)) (now (out .exit)) r ⌝ }
+{
     let old = until_next(input, 0);
     let old_end = old.to;
-    let new = until_next(input, behind(input, old));
+    let new = until_next(input, behind(input, old_end));
     let new_start = new.from;
     let new_end = new.to;
-    let rest = behind(input, new);
+    let rest = behind(input, new_end);
     answer_recheck(&input[..old_end], &input[new_start..new_end], &input[rest..], out)
 }
 
@@ -135,7 +148,9 @@ pub fn show(s: &[u8], n: usize) {
 }
 
 // Whether the first n bytes of a slice are those of another.
-pub fn begins(s: &[u8], n: usize, other: &[u8]) -> bool {
+pub fn begins(s: &[u8], n: usize, other: &[u8]) -> bool
+    ensures { λ r. ⌜ Begins (now (s .entry)) n (now (other .entry)) r ⌝ }
+{
     if n <= s.len() {
         return check::same(&s[..n], other);
     }

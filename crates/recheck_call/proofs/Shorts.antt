@@ -4,9 +4,9 @@ use mathlib.Core.Bool.{Bool, true, false}
 use Prim.Native.Nat.{ℕ, _≤_, _<_}
 use lib.Dec.{ltb}
 use borrow.Author.Tests.{ltb-false, lt-ltb, le-ltb}
-use Rattle.layout.specs.Layout.{tableLength, lineLength}
+use Rattle.layout.specs.Layout.{tableLength, lineLength, arenaLength, workLength}
 use Rattle.answers.specs.Outcomes.{isShort, Short}
-use Rattle.answers.proofs.Promises.{passed-on, not-short}
+use Rattle.answers.proofs.Promises.{passed-on, long-enough}
 use Rattle.recheck_call.specs.Rechecked.{recheckShort, RecheckShort}
 
 module _ {d t a w : ℕ} {b : Bool} (o : ℕ) (h : Short d t a w b) where
@@ -26,9 +26,12 @@ module _ {d t a w : ℕ} {b : Bool} (o : ℕ) (h : Short d t a w b) where
     unfolding recheckShort
     short-line i = record { is = simp (lent, le-ltb o tableLength i) }
 
--- the slices of both tables are as long as they must be
-pub none-short : {d o t a w : ℕ} {b : Bool} → RecheckShort d o t a w b → b ≡ false → (tableLength ≤ o) × (tableLength ≤ t)
+-- the slices are as long as they must be: the old table's, the arena for a line, and what a run is lent
+pub none-short : {d o t a w : ℕ} {b : Bool} → RecheckShort d o t a w b → b ≡ false
+    → (tableLength ≤ o) × (lineLength ≤ a) × (tableLength ≤ t) × (arenaLength ≤ a) × (workLength ≤ w)
 unfolding recheckShort
 none-short {d} {o} {t} {a} {w} h e =
     let p = passed-on (isShort d t a w) _ (sym (h .is) ∙ e) in
-    (ltb-false o tableLength (passed-on (ltb o tableLength) _ (p .1) .0), not-short (record { is = sym (p .0) }) refl)
+    let q = passed-on (ltb o tableLength) _ (p .1) in
+    let n = long-enough (record { is = sym (p .0) }) refl in
+    (ltb-false o tableLength (q .0), ltb-false a lineLength (q .1), n .0, n .1, n .2)

@@ -2,18 +2,15 @@
 // keeps its old lines. A call tests what is lent to it, refuses a short scratch with 20 before all else, and leaves every scratch zero.
 pub mod mixed;
 
-ghost use mathlib.Core.Bool.{false};
 ghost use Prim.Native.Nat.{_≤_};
 ghost use lib.ListN.{length};
 ghost use Rattle.layout.specs.Layout.{tableLength};
-ghost use Rattle.answers.specs.Outcomes.{recheckNumbers, Answered};
-ghost use Rattle.recheck_call.specs.Rechecked.{recheckShort, RecheckShort, Rechecked};
+ghost use Rattle.recheck_call.specs.Rechecked.{RecheckShort, Delivers, Lists, FlagsAndLists, ComparesBoth, ReadsNew, Answers, Rechecked};
 use affected::compare;
 use affected::reach;
 use answers::outcome::Outcome;
 use answers::outcome;
 use cells::clear;
-use cells::small;
 use cells::wipe;
 use cells::wipe_bytes;
 use layout::ArenaSlice;
@@ -23,6 +20,7 @@ use listing::old::Old;
 use listing::old::read_old;
 use prepare::Prepared;
 use prepare::first_root;
+use prepare::number;
 use prepare::prepare;
 use table::Answer;
 use table::Table;
@@ -53,7 +51,7 @@ fn deliver(
     work: &mut [u32],
     size: u32,
 ) -> Outcome
-    ensures { λ r. ⌜ Answered recheckNumbers false (now (out .entry)) (now (out .exit)) r ⌝ }
+    ensures { λ r. ⌜ Delivers (now (listing .entry)) (now (out .entry)) (now (draft .entry)) (now (old .entry)) (now (table .entry)) g (now (arena .entry)) (now (work .entry)) size (now (out .exit)) r ⌝ }
 {
     let len = size as usize;
     if out.len() < len {
@@ -78,7 +76,7 @@ fn list(
     arena: &mut [u32],
     work: &mut [u32],
 ) -> Outcome
-    ensures { λ r. ⌜ Answered recheckNumbers false (now (out .entry)) (now (out .exit)) r ⌝ }
+    ensures { λ r. ⌜ Lists (now (listing .entry)) (now (out .entry)) (now (old .entry)) (now (table .entry)) g (now (arena .entry)) (now (work .entry)) (now (out .exit)) r ⌝ }
 {
     clear(work, WorkSlice::SEEN, WorkSlice::HELD - WorkSlice::SEEN);
     let size = mixed::write_text(listing, draft, old, table, g, arena, work);
@@ -96,7 +94,7 @@ fn flag_and_list(
     arena: &mut [u32],
     work: &mut [u32],
 ) -> Outcome
-    ensures { λ r. ⌜ Answered recheckNumbers false (now (out .entry)) (now (out .exit)) r ⌝ }
+    ensures { λ r. ⌜ FlagsAndLists (now (listing .entry)) (now (out .entry)) (now (old .entry)) (now (table .entry)) t (now (arena .entry)) (now (work .entry)) (now (out .exit)) r ⌝ }
 {
     let g = prepare(table, t);
     let c = g.canon;
@@ -116,12 +114,12 @@ fn compare_both(
     arena: &mut [u32],
     work: &mut [u32],
 ) -> Outcome
-    ensures { λ r. ⌜ Answered recheckNumbers false (now (out .entry)) (now (out .exit)) r ⌝ }
+    ensures { λ r. ⌜ ComparesBoth (now (listing .entry)) (now (out .entry)) (now (old .entry)) u (now (table .entry)) t (now (arena .entry)) (now (work .entry)) (now (out .exit)) r ⌝ }
 {
     if !compare::comparable(old, u, table, t) {
         return Outcome::Refused(10, 0);
     }
-    match read_old(listing, small(t.names), table, first_root(t), small(t.roots), old, arena) {
+    match read_old(listing, old, table, arena, number(t.names), first_root(t), number(t.roots)) {
         Old::Refused(l) => Outcome::Refused(11, l),
         Old::InForm => flag_and_list(listing, out, draft, old, table, t, arena, work),
     }
@@ -140,7 +138,7 @@ fn read_new(
     work: &mut [u32],
 ) -> Outcome
     requires { ⌜ tableLength ≤ length (now table) ⌝ }
-    ensures { λ r. ⌜ Answered recheckNumbers false (now (out .entry)) (now (out .exit)) r ⌝ }
+    ensures { λ r. ⌜ ReadsNew (now («new_text» .entry)) (now (listing .entry)) (now (out .entry)) (now (old .entry)) u (now (table .entry)) (now (arena .entry)) (now (work .entry)) (now (out .exit)) r ⌝ }
 {
     clear(table, 0, TableSlice::ROWS);
     match table::read(new_text, table) {
@@ -161,7 +159,7 @@ fn answer(
     arena: &mut [u32],
     work: &mut [u32],
 ) -> Outcome
-    ensures { λ r. ⌜ Answered recheckNumbers (recheckShort (length (now (draft .entry))) (length (now (old .entry))) (length (now (table .entry))) (length (now (arena .entry))) (length (now (work .entry)))) (now (out .entry)) (now (out .exit)) r ⌝ }
+    ensures { λ r. ⌜ Answers (now («old_text» .entry)) (now («new_text» .entry)) (now (listing .entry)) (now (out .entry)) (now (draft .entry)) (now (old .entry)) (now (table .entry)) (now (arena .entry)) (now (work .entry)) (now (out .exit)) r ⌝ }
 {
     if is_short(draft.len(), old.len(), table.len(), arena.len(), work.len()) {
         return Outcome::Refused(20, 0);
@@ -184,7 +182,7 @@ pub fn recheck(
     arena: &mut [u32],
     work: &mut [u32],
 ) -> Outcome
-    ensures { λ r. ⌜ Rechecked (now (out .entry)) (now (draft .entry)) (now (old .entry)) (now (table .entry)) (now (arena .entry)) (now (work .entry)) (now (out .exit)) (now (draft .exit)) (now (old .exit)) (now (table .exit)) (now (arena .exit)) (now (work .exit)) r ⌝ }
+    ensures { λ r. ⌜ Rechecked (now («old_text» .entry)) (now («new_text» .entry)) (now (listing .entry)) (now (out .entry)) (now (draft .entry)) (now (old .entry)) (now (table .entry)) (now (arena .entry)) (now (work .entry)) (now (out .exit)) (now (draft .exit)) (now (old .exit)) (now (table .exit)) (now (arena .exit)) (now (work .exit)) r ⌝ }
 {
     let r = answer(old_text, new_text, listing, out, draft, old, table, arena, work);
     wipe_bytes(draft);

@@ -8,14 +8,23 @@ use layout::SpanSlice;
 use listing::lines;
 use listing::write;
 use prepare::Prepared;
+ghost use mathlib.Core.List.{_++_};
+ghost use Rattle.cells.specs.Part.{run};
+ghost use Rattle.rules.specs.Text.{lineText};
+ghost use Rattle.listing.specs.Writes.{Wrote};
+ghost use Rattle.recheck_call.specs.Mixes.{IsKept, tabBefore, wordAt, WritesOld, WritesLines, WritesText};
 
 // Whether root i keeps its old lines.
-fn is_kept(old: &[u32], i: u32) -> bool {
+fn is_kept(old: &[u32], i: u32) -> bool
+    ensures { λ r. ⌜ IsKept (now (old .entry)) i r ⌝ }
+{
     get(old, place(SpanSlice::REDONE, i)) == 0
 }
 
 // A tab before each word but the first.
-fn tab_before(out: &mut [u8], p: u32, i: u32) -> u32 {
+fn tab_before(out: &mut [u8], p: u32, i: u32) -> u32
+    ensures { λ r. ⌜ Wrote (tabBefore i) p (now (out .entry)) (now (out .exit)) r ⌝ }
+{
     if i == 0 {
         return p;
     }
@@ -23,7 +32,9 @@ fn tab_before(out: &mut [u8], p: u32, i: u32) -> u32 {
 }
 
 // `kept` or `redone` for root i.
-fn write_word(out: &mut [u8], old: &[u32], at: u32, i: u32) -> u32 {
+fn write_word(out: &mut [u8], old: &[u32], at: u32, i: u32) -> u32
+    ensures { λ r. ⌜ Wrote (tabBefore i ++ wordAt (now (old .entry)) i) at (now (out .entry)) (now (out .exit)) r ⌝ }
+{
     let p = tab_before(out, at, i);
     if is_kept(old, i) {
         return write::word(out, p, b"kept");
@@ -32,7 +43,9 @@ fn write_word(out: &mut [u8], old: &[u32], at: u32, i: u32) -> u32 {
 }
 
 // The line of `kept` or `redone` for each root.
-fn write_words(out: &mut [u8], old: &[u32], n: u32) -> u32 {
+fn write_words(out: &mut [u8], old: &[u32], n: u32) -> u32
+    ensures { λ r. ⌜ Wrote (lineText (run (wordAt (now (old .entry))) 0 n)) 0 (now (out .entry)) (now (out .exit)) r ⌝ }
+{
     let mut p = 0;
     let mut i = 0;
     while i < n {
@@ -43,7 +56,9 @@ fn write_words(out: &mut [u8], old: &[u32], n: u32) -> u32 {
 }
 
 // The bytes of the old listing between two places.
-fn write_old(listing: &[u8], out: &mut [u8], p: u32, from: usize, to: usize) -> u32 {
+fn write_old(listing: &[u8], out: &mut [u8], p: u32, from: usize, to: usize) -> u32
+    ensures { λ r. ⌜ WritesOld (now (listing .entry)) p from to (now (out .entry)) (now (out .exit)) r ⌝ }
+{
     if to < from {
         return p;
     }
@@ -64,7 +79,9 @@ fn write_root(
     work: &mut [u32],
     p: u32,
     i: u32,
-) -> u32 {
+) -> u32
+    ensures { λ r. ⌜ WritesLines (now (listing .entry)) (now (old .entry)) (now (table .entry)) g (now (arena .entry)) (now (work .entry)) p i (now (out .entry)) (now (table .exit)) (now (out .exit)) r ⌝ }
+{
     if is_kept(old, i) {
         let from = at(old, i) as usize;
         let to = get(old, place(1, i)) as usize;
@@ -82,7 +99,9 @@ pub fn write_text(
     g: Prepared,
     arena: &mut [u32],
     work: &mut [u32],
-) -> u32 {
+) -> u32
+    ensures { λ r. ⌜ WritesText (now (listing .entry)) (now (old .entry)) (now (table .entry)) g (now (arena .entry)) (now (work .entry)) (now (out .entry)) (now (table .exit)) (now (out .exit)) r ⌝ }
+{
     let n = g.roots;
     let head = write_words(out, old, n);
     let mut p = lines::answers(out, head, n);

@@ -8,17 +8,17 @@ use Prim.Native.Nat.{ℕ, zero, suc}
 use Prim.Native.String.{String}
 use mathlib.Core.List.{List, [], _∷_, _++_, map}
 use Rattle.rules.specs.Plain.{ascii}
-use Rattle.rules.specs.Text.{pieces, digit, number, decimal, hex, escaped, next, name, fieldOf, rowOf, rowTexts, fieldText}
+use Rattle.rules.specs.Text.{pieces, digit, number, decimal, hex, escaped, name, fieldOf, rowOf, rowTexts, fieldText}
 use Rattle.rules.specs.Text.{comma, parted, lineText}
-use Rattle.rules.specs.Table.{sectionOf, attrAt, entryOf, step, inTable, tableOf, representatives, Result, accepted, refused}
+use Rattle.rules.specs.Table.{sectionOf, attrAt, entryOf, step, inTable, sectionsOf, tableOf, representatives, Result, accepted, refused}
 use Rattle.rules.specs.Types.{store, limit}
 use Rattle.rules.specs.Order.{order, sort}
 use Rattle.rules.specs.Members.{is-subtype-of, flatten-composite, are-shapes-disjoint, are-output-types-disjoint}
 use Rattle.rules.specs.Members.{is-output-subtype-or-equal, remove-tautological-pairs, absorb-subsumed-union-members}
 use Rattle.rules.specs.Members.{merge-attrset-intersection, remove-redundant-negations, has-type-contradiction}
 use Rattle.rules.specs.Members.{simplify-union-neg-intersection, factor-shared-from-intersection, negate-output-ty}
-use Rattle.rules.specs.Run.{expand-bounds, expand-bounds-empty-fallback, canonicalize-inner, interRest, interRetry, interRule}
-use Rattle.rules.specs.Run.{unionRule, rule, entered, visit, pass, canonicalize, firstPass, answerOf}
+use Rattle.rules.specs.Canonicalizer.{expand-bounds, expand-bounds-empty-fallback, canonicalize-inner, interRest, interRetry, interRule}
+use Rattle.rules.specs.Canonicalizer.{unionRule, rule, entered, visit, pass, canonicalize, firstPass, answerOf}
 use Rattle.rules.specs.Listing.{walk, nodeText, rootText, listingText, nodeOf, nodeInForm, oldListing}
 use Rattle.rules.specs.Calls.{canon, canonRoot, comparable, meets, recheckText, recheck, splitNext, lent, canonProgram, recheckProgram}
 
@@ -257,8 +257,8 @@ callExamples =
     ∷ []
 
 called : map (λ (e : CallExample). comesTo (e .call)) callExamples ≡ map (λ (e : CallExample). e .result) callExamples
-unfolding pieces digit number decimal hex escaped next name fieldOf rowOf rowTexts fieldText
-    sectionOf attrAt entryOf step inTable tableOf representatives store limit order sort
+unfolding pieces digit number decimal hex escaped name fieldOf rowOf rowTexts fieldText
+    sectionOf attrAt entryOf step inTable sectionsOf tableOf representatives store limit order sort
     is-subtype-of flatten-composite are-shapes-disjoint are-output-types-disjoint is-output-subtype-or-equal
     remove-tautological-pairs absorb-subsumed-union-members merge-attrset-intersection remove-redundant-negations has-type-contradiction
     simplify-union-neg-intersection factor-shared-from-intersection negate-output-ty

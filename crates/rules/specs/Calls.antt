@@ -2,13 +2,13 @@
 use mathlib.Core.Bool.{Bool, true, false, not}
 use Prim.Native.Nat.{ℕ, zero, suc}
 use mathlib.Core.List.{List, [], _∷_, _++_, map}
-use lib.ListN.{length, getD}
+use lib.ListN.{length, getD, drop}
 use lib.Dec.{eqb, ltb}
-use Rattle.cells.specs.Part.{if, cell, eqList}
-use Rattle.rules.specs.Plain.{ascii, any, both, joined}
+use Rattle.cells.specs.Part.{if, eqList}
+use Rattle.rules.specs.Plain.{ascii, any, both, unless, joined}
 use Rattle.rules.specs.Ceilings.{mostText}
 use Rattle.rules.specs.Text.{lineFeed, pieces, parted, decimal, lineText}
-use Rattle.rules.specs.Table.{Table, entryOf, kids, Result, accepted, refused, then, tableOf}
+use Rattle.rules.specs.Table.{Pair, Root, Table, entryOf, kids, Result, accepted, refused, then, tableOf}
 use Rattle.rules.specs.Listing.{rootText, rootTextOf, answersText, listingText, oldListing}
 
 -- 12: "the text to be written is longer than the lent output"
@@ -22,22 +22,29 @@ canon text room = then (tableOf text) (λ (t : Table). fits room (listingText t)
 -- "Calls that take a root directly refuse one of n or more with 3 and line 0". A sign of 0 is +, any other is -
 unfoldable pub canonRoot : List ℕ → ℕ → ℕ → ℕ → Result (List ℕ)
 canonRoot text id s room =
-    then (tableOf text) (λ (t : Table). if (ltb id (length (t .entries))) (λ _. fits room (rootText t id s)) (λ _. refused 3 0))
+    then (tableOf text) (λ (t : Table). unless (ltb id (length (t .entries))) (λ _. refused 3 0) (λ _. fits room (rootText t id s)))
 
-abbrev pub sameRows : List (List ℕ) → List (List ℕ) → Bool
-sameRows [] [] = true
-sameRows [] (y ∷ ys) = false
-sameRows (x ∷ xs) [] = false
-sameRows (x ∷ xs) (y ∷ ys) = if (eqList x y) (λ _. sameRows xs ys) (λ _. false)
+-- the same elements in the same order, by this test
+abbrev pub same : {A : Type 0} → (A → A → Bool) → List A → List A → Bool
+same eq [] [] = true
+same eq [] (y ∷ ys) = false
+same eq (x ∷ xs) [] = false
+same eq (x ∷ xs) (y ∷ ys) = if (eq x y) (λ _. same eq xs ys) (λ _. false)
+
+abbrev pub samePair : Pair → Pair → Bool
+samePair p q = both (eqb (p .first) (q .first)) (λ _. eqb (p .second) (q .second))
+
+abbrev pub sameRoot : Root → Root → Bool
+sameRoot r s = both (eqb (r .id) (s .id)) (λ _. eqb (r .sign) (s .sign))
 
 -- not 10: "budget, n, or a name, pair, mark or root line differs"
 unfoldable pub comparable : Table → Table → Bool
 comparable old new =
     both (eqb (old .budget) (new .budget))
     (λ _. both (eqb (length (old .entries)) (length (new .entries)))
-    (λ _. both (sameRows (old .names) (new .names))
-    (λ _. both (sameRows (old .pairs) (new .pairs))
-    (λ _. both (sameRows (old .marks) (new .marks)) (λ _. sameRows (old .roots) (new .roots))))))
+    (λ _. both (same eqList (old .names) (new .names))
+    (λ _. both (same samePair (old .pairs) (new .pairs))
+    (λ _. both (eqList (old .marks) (new .marks)) (λ _. same sameRoot (old .roots) (new .roots))))))
 
 abbrev pub rowAt : Table → ℕ → List ℕ
 rowAt t id = getD (t .entries) id []
@@ -51,15 +58,15 @@ meets zero old new id = differs old new id
 meets (suc f) old new id = if (differs old new id) (λ _. true) (λ _. any (meets f old new) (kids (entryOf (rowAt old id))))
 
 -- a root is redone exactly if a chain of bounds or children from it meets an entry that differs; n steps reach whatever can be reached
-abbrev pub redone : Table → Table → List ℕ → Bool
-redone old new root = meets (length (old .entries)) old new (cell root 0)
+abbrev pub redone : Table → Table → Root → Bool
+redone old new root = meets (length (old .entries)) old new (root .id)
 
 abbrev pub redoneWord : Bool → List ℕ
 redoneWord true = ascii "redone"
 redoneWord false = ascii "kept"
 
 -- the lines of each root: copied, or what the new table gives
-abbrev pub rechecked : Table → Table → List (List ℕ) → List (List ℕ) → List (List ℕ)
+abbrev pub rechecked : Table → Table → List Root → List (List ℕ) → List (List ℕ)
 rechecked old new [] texts = []
 rechecked old new (r ∷ rs) [] = []
 rechecked old new (r ∷ rs) (x ∷ xs) = (if (redone old new r) (λ _. rootTextOf new r) (λ _. x)) ∷ rechecked old new rs xs
@@ -67,7 +74,7 @@ rechecked old new (r ∷ rs) (x ∷ xs) = (if (redone old new r) (λ _. rootText
 -- "a first line of `kept` or `redone` for each root, tab between, then the listing"
 unfoldable pub recheckText : Table → Table → List (List ℕ) → List ℕ
 recheckText old new texts =
-    lineText (map (λ (r : List ℕ). redoneWord (redone old new r)) (new .roots))
+    lineText (map (λ (r : Root). redoneWord (redone old new r)) (new .roots))
     ++ answersText (length (new .roots))
     ++ joined (rechecked old new (new .roots) texts)
 
@@ -75,9 +82,32 @@ recheckText old new texts =
 unfoldable pub recheck : List ℕ → List ℕ → List ℕ → ℕ → Result (List ℕ)
 recheck oldText newText listing room =
     then (tableOf oldText) (λ (old : Table). then (tableOf newText) (λ (new : Table).
-    if (comparable old new)
-    (λ _. then (oldListing (length (new .names)) (new .roots) listing) (λ (texts : List (List ℕ)). fits room (recheckText old new texts)))
-    (λ _. refused 10 0)))
+    unless (comparable old new) (λ _. refused 10 0)
+    (λ _. then (oldListing (length (new .names)) (new .roots) listing) (λ (texts : List (List ℕ)). fits room (recheckText old new texts)))))
+
+-- what a call leaves: how many bytes it wrote, or the refusal, and the lent output
+pub record Left : Type 0 where
+  pub outcome : Result ℕ
+  pub output : List ℕ
+
+-- a text stands at the beginning of the output; "Any refusal but 6 to 9 leaves the lent output as found"
+abbrev pub leaves : List ℕ → Result (List ℕ) → Left
+leaves out (accepted text) = record { outcome = accepted (length text); output = text ++ drop (length text) out }
+leaves out (refused k l) = record { outcome = refused k l; output = out }
+
+-- "20 before all": a lent scratch is short
+abbrev pub unlessShort : {A : Type 0} → Bool → Result A → Result A
+unlessShort short r = if short (λ _. refused 20 0) (λ _. r)
+
+-- the public calls, of their inputs, the output as found, and whether a scratch is short
+unfoldable pub canonCall : List ℕ → List ℕ → Bool → Left
+canonCall text out short = leaves out (unlessShort short (canon text (length out)))
+
+unfoldable pub canonRootCall : List ℕ → ℕ → ℕ → List ℕ → Bool → Left
+canonRootCall text id s out short = leaves out (unlessShort short (canonRoot text id s (length out)))
+
+unfoldable pub recheckCall : List ℕ → List ℕ → List ℕ → List ℕ → Bool → Left
+recheckCall oldText newText listing out short = leaves out (unlessShort short (recheck oldText newText listing (length out)))
 
 pub record Split : Type 0 where
   pub front : List ℕ

@@ -5,10 +5,9 @@ pub mod Table
 pub mod Types
 pub mod Order
 pub mod Members
-pub mod Run
+pub mod Canonicalizer
 pub mod Listing
 pub mod Calls
-pub mod Numbers
+pub mod Chains
 pub mod Examples
 pub mod CallExamples
-pub mod Sound

@@ -5,14 +5,27 @@ use mathlib.Core.List.{List, [], _∷_, _++_, map, foldl}
 use lib.ListN.{length}
 use lib.Dec.{eqb, ltb, leb}
 use Rattle.cells.specs.Part.{if, cell, part}
-use Rattle.rules.specs.Plain.{ascii, Maybe, none, some, contains, joined, both, flag, position}
+use Rattle.rules.specs.Plain.{ascii, contains, joined, both, flag, position}
 use Rattle.rules.specs.Ceilings.{mostText, mostMembers, mostNodes}
 use Rattle.rules.specs.Text.{tab, lineFeed, pieces, number, decimal, Kind, byWord, rowOf, rowTexts, lineText, aNumber, aFlag, aSign}
-use Rattle.rules.specs.Table.{Field, kind, attrAt, keysIn, keysAscend, Result, accepted, refused, then, allBelow, Table}
-use Rattle.rules.specs.Types.{Node, TyVar, Primitive, ListOf, Lambda, AttrSet, Union, Intersection, Named, Neg, Bottom, Top, nodeKinds, encode, children, members, asAttr, nodeAt, polarityOf}
-use Rattle.rules.specs.Run.{Answer, shown, refusedWith, answerOf}
+use Rattle.rules.specs.Table.{Field, attrAt, keysIn, keysAscend, Result, accepted, refused, then, allBelow, Root, Table}
+use Rattle.rules.specs.Types.{Node, TyVar, Primitive, ListOf, Lambda, AttrSet, Union, Intersection, Named, Neg, Bottom, Top, kind, nodeKinds}
+use Rattle.rules.specs.Types.{tyVarKind, primitiveKind, listKind, lambdaKind, attrSetKind, unionKind, intersectionKind, namedKind, negKind}
+use Rattle.rules.specs.Types.{bottomKind, encode, children, members, asAttr, nodeAt, polarityOf}
+use Rattle.rules.specs.Canonicalizer.{Answer, shown, refusedWith, answerOf}
+use mathlib.Core.Option.{Option, none, some}
 
--- the lines of a listing that are no nodes: `answers`, root count; `root`, id, sign, passes, operations, sorted, bailed, node count;
+-- the lines of a listing that are no nodes, by number
+abbrev pub answersHead : ℕ
+answersHead = 0
+
+abbrev pub rootHead : ℕ
+rootHead = 1
+
+abbrev pub refusedHead : ℕ
+refusedHead = 2
+
+-- what they say: `answers`, root count; `root`, id, sign, passes, operations, sorted, bailed, node count;
 -- `refused`, id, sign, number
 abbrev pub headKinds : List Kind
 headKinds =
@@ -20,6 +33,26 @@ headKinds =
     ∷ kind (ascii "root") (aNumber ∷ aSign ∷ aNumber ∷ aNumber ∷ aFlag ∷ aFlag ∷ aNumber ∷ [])
     ∷ kind (ascii "refused") (aNumber ∷ aSign ∷ aNumber ∷ [])
     ∷ []
+
+-- the words of such a line behind the number of its kind: a listing's root count; id and sign of a root; its passes and node count, or the number
+-- of its refusal
+abbrev pub countWord : ℕ
+countWord = 1
+
+abbrev pub idWord : ℕ
+idWord = 1
+
+abbrev pub signWord : ℕ
+signWord = 2
+
+abbrev pub passesWord : ℕ
+passesWord = 3
+
+abbrev pub nodesWord : ℕ
+nodesWord = 7
+
+abbrev pub numberWord : ℕ
+numberWord = 3
 
 abbrev pub headText : List ℕ → List ℕ
 headText row = lineText (rowTexts headKinds row)
@@ -37,7 +70,7 @@ walk ns x = walkBy (suc x) ns [] x
 abbrev pub renumberField : (ℕ → ℕ) → Field → Field
 renumberField f g = record { key = g .key; type = f (g .type) }
 
-abbrev pub renumberDyn : (ℕ → ℕ) → Maybe ℕ → Maybe ℕ
+abbrev pub renumberDyn : (ℕ → ℕ) → Option ℕ → Option ℕ
 renumberDyn f none = none
 renumberDyn f (some d) = some (f d)
 
@@ -63,24 +96,25 @@ nodeText k n = lineText (decimal k ∷ rowTexts nodeKinds (encode n))
 -- the lines of the nodes xs, numbered from k on; seen is the whole walk
 abbrev pub nodeTexts : List Node → List ℕ → ℕ → List ℕ → List ℕ
 nodeTexts ns seen k [] = []
-nodeTexts ns seen k (x ∷ xs) = nodeText k (renumber (λ (y : ℕ). position 0 y seen) (nodeAt ns x)) ++ nodeTexts ns seen (suc k) xs
+nodeTexts ns seen k (x ∷ xs) = nodeText k (renumber (λ (y : ℕ). position (eqb y) seen) (nodeAt ns x)) ++ nodeTexts ns seen (suc k) xs
 
 -- "its listing line is `refused`, id, sign, number"
 abbrev pub answerText : ℕ → ℕ → Answer → List ℕ
-answerText id s (refusedWith k) = headText (2 ∷ id ∷ s ∷ k ∷ [])
-answerText id s (shown passes ops sorted bailed ns x) =
-    headText (1 ∷ id ∷ s ∷ passes ∷ ops ∷ flag sorted ∷ flag bailed ∷ length (walk ns x) ∷ []) ++ nodeTexts ns (walk ns x) 0 (walk ns x)
+answerText id s (refusedWith k) = headText (refusedHead ∷ id ∷ s ∷ k ∷ [])
+answerText id s (shown a) =
+    headText (rootHead ∷ id ∷ s ∷ a .passes ∷ a .operations ∷ flag (a .sorted) ∷ flag (a .bailed) ∷ length (walk (a .nodes) (a .root)) ∷ [])
+    ++ nodeTexts (a .nodes) (walk (a .nodes) (a .root)) 0 (walk (a .nodes) (a .root))
 
 -- the lines of a root, s its sign (0 for +)
 unfoldable pub rootText : Table → ℕ → ℕ → List ℕ
 rootText t id s = answerText id s (answerOf t id (polarityOf s))
 
-abbrev pub rootTextOf : Table → List ℕ → List ℕ
-rootTextOf t root = rootText t (cell root 0) (cell root 1)
+abbrev pub rootTextOf : Table → Root → List ℕ
+rootTextOf t root = rootText t (root .id) (root .sign)
 
 -- "First line `answers`, root count"
 abbrev pub answersText : ℕ → List ℕ
-answersText n = headText (0 ∷ n ∷ [])
+answersText n = headText (answersHead ∷ n ∷ [])
 
 unfoldable pub listingText : Table → List ℕ
 listingText t = answersText (length (t .roots)) ++ joined (map (rootTextOf t) (t .roots))
@@ -88,16 +122,16 @@ listingText t = answersText (length (t .roots)) ++ joined (map (rootTextOf t) (t
 -- a row of a node line, as the node that it says
 unfoldable pub nodeOf : List ℕ → Node
 nodeOf row =
-    if (eqb (cell row 0) 0) (λ _. TyVar (cell row 1))
-    (λ _. if (eqb (cell row 0) 1) (λ _. Primitive (cell row 1))
-    (λ _. if (eqb (cell row 0) 2) (λ _. ListOf (cell row 1))
-    (λ _. if (eqb (cell row 0) 3) (λ _. Lambda (cell row 1) (cell row 2))
-    (λ _. if (eqb (cell row 0) 4) (λ _. AttrSet (attrAt row 1))
-    (λ _. if (eqb (cell row 0) 5) (λ _. Union (part row 2 (cell row 1)))
-    (λ _. if (eqb (cell row 0) 6) (λ _. Intersection (part row 2 (cell row 1)))
-    (λ _. if (eqb (cell row 0) 7) (λ _. Named (cell row 1) (cell row 2))
-    (λ _. if (eqb (cell row 0) 8) (λ _. Neg (cell row 1))
-    (λ _. if (eqb (cell row 0) 9) (λ _. Bottom)
+    if (eqb (cell row 0) tyVarKind) (λ _. TyVar (cell row 1))
+    (λ _. if (eqb (cell row 0) primitiveKind) (λ _. Primitive (cell row 1))
+    (λ _. if (eqb (cell row 0) listKind) (λ _. ListOf (cell row 1))
+    (λ _. if (eqb (cell row 0) lambdaKind) (λ _. Lambda (cell row 1) (cell row 2))
+    (λ _. if (eqb (cell row 0) attrSetKind) (λ _. AttrSet (attrAt row 1))
+    (λ _. if (eqb (cell row 0) unionKind) (λ _. Union (part row 2 (cell row 1)))
+    (λ _. if (eqb (cell row 0) intersectionKind) (λ _. Intersection (part row 2 (cell row 1)))
+    (λ _. if (eqb (cell row 0) namedKind) (λ _. Named (cell row 1) (cell row 2))
+    (λ _. if (eqb (cell row 0) negKind) (λ _. Neg (cell row 1))
+    (λ _. if (eqb (cell row 0) bottomKind) (λ _. Bottom)
     (λ _. Top))))))))))
 
 -- "each child smaller than its node, at most 128 members, and ascending keys below the name count"
@@ -107,11 +141,11 @@ nodeFits names i n =
     (λ _. both (leb (length (members n)) mostMembers)
     (λ _. both (keysAscend (asAttr n)) (λ _. allBelow names (keysIn (asAttr n)))))
 
-abbrev pub rowFits : ℕ → ℕ → Maybe (List ℕ) → Bool
+abbrev pub rowFits : ℕ → ℕ → Option (List ℕ) → Bool
 rowFits names i none = false
 rowFits names i (some row) = nodeFits names i (nodeOf row)
 
-abbrev pub isNumber : ℕ → Maybe ℕ → Bool
+abbrev pub isNumber : ℕ → Option ℕ → Bool
 isNumber i none = false
 isNumber i (some n) = eqb n i
 
@@ -135,12 +169,12 @@ nextLine k [] f = refused 11 k
 nextLine k (l ∷ []) f = refused 11 k
 nextLine k (l ∷ m ∷ ls) f = f l (m ∷ ls)
 
-abbrev pub taken : Taking → List ℕ → List (List ℕ) → Taking
-taken c l ls = record { text = c .text ++ l ++ (lineFeed ∷ []); line = suc (c .line); rest = ls }
+abbrev pub takeLine : Taking → List ℕ → List (List ℕ) → Taking
+takeLine c l ls = record { text = c .text ++ l ++ (lineFeed ∷ []); line = suc (c .line); rest = ls }
 
 abbrev pub takeNode : ℕ → ℕ → Taking → Result Taking
 takeNode names i c =
-    nextLine (c .line) (c .rest) (λ l ls. if (nodeInForm names i l) (λ _. accepted (taken c l ls)) (λ _. refused 11 (c .line)))
+    nextLine (c .line) (c .rest) (λ l ls. if (nodeInForm names i l) (λ _. accepted (takeLine c l ls)) (λ _. refused 11 (c .line)))
 
 -- "1 to 4,096 nodes in sequence"
 abbrev pub takeNodes : ℕ → ℕ → ℕ → Taking → Result Taking
@@ -150,28 +184,29 @@ takeNodes names i (suc n) c = then (takeNode names i c) (λ (d : Taking). takeNo
 abbrev pub within : ℕ → ℕ → ℕ → Bool
 within a b x = both (leb a x) (λ _. leb x b)
 
--- the words of a root's line are for this root
-abbrev pub forRoot : List ℕ → List ℕ → Bool
-forRoot root row = both (eqb (cell row 1) (cell root 0)) (λ _. eqb (cell row 2) (cell root 1))
+-- a root's line is for this root
+abbrev pub forRoot : Root → List ℕ → Bool
+forRoot root row = both (eqb (cell row idWord) (root .id)) (λ _. eqb (cell row signWord) (root .sign))
 
 -- "passes 1 or 2, marks 0 or 1, refusals 6 to 9": how many nodes follow a root's line, if it is in form
-abbrev pub nodesAfter : List ℕ → Maybe (List ℕ) → Maybe ℕ
+abbrev pub nodesAfter : Root → Option (List ℕ) → Option ℕ
 nodesAfter root none = none
 nodesAfter root (some row) =
-    if (both (both (eqb (cell row 0) 1) (λ _. forRoot root row)) (λ _. both (within 1 2 (cell row 3)) (λ _. within 1 mostNodes (cell row 7))))
-    (λ _. some (cell row 7))
-    (λ _. if (both (both (eqb (cell row 0) 2) (λ _. forRoot root row)) (λ _. within 6 9 (cell row 3)))
+    if (both (both (eqb (cell row 0) rootHead) (λ _. forRoot root row))
+      (λ _. both (within 1 2 (cell row passesWord)) (λ _. within 1 mostNodes (cell row nodesWord))))
+    (λ _. some (cell row nodesWord))
+    (λ _. if (both (both (eqb (cell row 0) refusedHead) (λ _. forRoot root row)) (λ _. within 6 9 (cell row numberWord)))
     (λ _. some 0)
     (λ _. none))
 
-abbrev pub takeAfter : ℕ → Taking → Maybe ℕ → ℕ → Result Taking
+abbrev pub takeAfter : ℕ → Taking → Option ℕ → ℕ → Result Taking
 takeAfter names c none k = refused 11 k
 takeAfter names c (some n) k = takeNodes names 0 n c
 
 -- the lines of one root
-abbrev pub takeRoot : ℕ → List ℕ → Taking → Result Taking
+abbrev pub takeRoot : ℕ → Root → Taking → Result Taking
 takeRoot names root c =
-    nextLine (c .line) (c .rest) (λ l ls. takeAfter names (taken c l ls) (nodesAfter root (rowOf headKinds l)) (c .line))
+    nextLine (c .line) (c .rest) (λ l ls. takeAfter names (takeLine c l ls) (nodesAfter root (rowOf headKinds l)) (c .line))
 
 abbrev pub blank : Taking → Taking
 blank c = record { text = []; line = c .line; rest = c .rest }
@@ -184,18 +219,18 @@ atEnd k ((b ∷ l) ∷ []) = refused 11 k
 atEnd k (l ∷ m ∷ ls) = refused 11 k
 
 -- "for these roots in this order": each root's lines, as a text
-abbrev pub takeRoots : ℕ → List (List ℕ) → Taking → Result (List (List ℕ))
+abbrev pub takeRoots : ℕ → List Root → Taking → Result (List (List ℕ))
 takeRoots names [] c = atEnd (c .line) (c .rest)
 takeRoots names (r ∷ rs) c =
     then (takeRoot names r (blank c))
     (λ (d : Taking). then (takeRoots names rs d) (λ (ts : List (List ℕ)). accepted (d .text ∷ ts)))
 
-abbrev pub isAnswers : ℕ → Maybe (List ℕ) → Bool
+abbrev pub isAnswers : ℕ → Option (List ℕ) → Bool
 isAnswers n none = false
-isAnswers n (some row) = both (eqb (cell row 0) 0) (λ _. eqb (cell row 1) n)
+isAnswers n (some row) = both (eqb (cell row 0) answersHead) (λ _. eqb (cell row countWord) n)
 
 -- each root's lines in an old listing, or 11 with the earliest line at fault; "at most 65,536 bytes (else 11, line 0)"
-unfoldable pub oldListing : ℕ → List (List ℕ) → List ℕ → Result (List (List ℕ))
+unfoldable pub oldListing : ℕ → List Root → List ℕ → Result (List (List ℕ))
 oldListing names roots text =
     if (ltb mostText (length text)) (λ _. refused 11 0)
     (λ _. nextLine 1 (pieces lineFeed text)

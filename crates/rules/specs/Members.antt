@@ -5,10 +5,13 @@ use mathlib.Core.List.{List, [], _∷_, _++_}
 use lib.ListN.{length}
 use lib.Dec.{eqb, ltb}
 use Rattle.cells.specs.Part.{if}
-use Rattle.rules.specs.Plain.{Maybe, none, some, any, all, filter, contains, empty, addNew, both}
+use Rattle.rules.specs.Plain.{any, all, filter, contains, empty, addNew, both}
 use Rattle.rules.specs.Table.{Field, Attr, fieldKeys}
 use Rattle.rules.specs.Order.{sort}
-use Rattle.rules.specs.Types.{Node, TyVar, Primitive, ListOf, Lambda, AttrSet, Union, Intersection, Named, Neg, Bottom, Top, kindOf, members, asAttr, ok, Run, _>>=_, give, ask, store, nodeAt, is, tyVarKind, primitiveKind, listKind, lambdaKind, attrSetKind, unionKind, negKind, bottomKind, topKind}
+use Rattle.rules.specs.Types.{Node, TyVar, Primitive, ListOf, Lambda, AttrSet, Union, Intersection, Named, Neg, Bottom, Top, kindOf, members}
+use Rattle.rules.specs.Types.{asAttr, ok, Run, _>>=_, give, ask, store, nodeAt, is, tyVarKind, primitiveKind, listKind, lambdaKind, attrSetKind}
+use Rattle.rules.specs.Types.{unionKind, negKind, bottomKind, topKind}
+use mathlib.Core.Option.{Option, none, some}
 
 abbrev pub membersAt : List Node → ℕ → List ℕ
 membersAt ns x = members (nodeAt ns x)
@@ -152,19 +155,20 @@ cancelled ns positives negs m =
 unfoldable pub remove-tautological-pairs : List Node → List ℕ → List ℕ
 remove-tautological-pairs ns ms = filter (λ (m : ℕ). not (cancelled ns (filter (isPositive ns) ms) (negatedInners ns ms) m)) ms
 
-abbrev pub sameDyn : Maybe ℕ → Maybe ℕ → Bool
-sameDyn none d = true
-sameDyn (some a) none = false
-sameDyn (some a) (some b) = eqb a b
+-- a set without dyn, or both with the same
+abbrev pub noDynOrSame : Option ℕ → Option ℕ → Bool
+noDynOrSame none d = true
+noDynOrSame (some a) none = false
+noDynOrSame (some a) (some b) = eqb a b
 
 -- open a takes up open b: a has no dyn or b's, and each required field of a is in b
 abbrev pub subsumes : Attr → Attr → Bool
 subsumes a b =
     both (both (eqb (a .isOpen) 1) (λ _. eqb (b .isOpen) 1))
-    (λ _. both (sameDyn (a .dyn) (b .dyn))
+    (λ _. both (noDynOrSame (a .dyn) (b .dyn))
     (λ _. all (λ (k : ℕ). contains (a .optional) k || contains (fieldKeys (b .fields)) k) (fieldKeys (a .fields))))
 
-abbrev pub subsumesNode : Attr → Maybe Attr → Bool
+abbrev pub subsumesNode : Attr → Option Attr → Bool
 subsumesNode a none = false
 subsumesNode a (some b) = subsumes a b
 
@@ -176,13 +180,13 @@ takenBy ns i a gone j (m ∷ ms) =
     (if (both (not (eqb i j || contains gone j)) (λ _. subsumesNode a (asAttr (nodeAt ns m)))) (λ _. gone ++ (j ∷ [])) (λ _. gone))
     (suc j) ms
 
-abbrev pub takenByNode : List Node → List ℕ → List ℕ → ℕ → Maybe Attr → List ℕ
-takenByNode ns all gone i none = gone
-takenByNode ns all gone i (some a) = if (contains gone i) (λ _. gone) (λ _. takenBy ns i a gone 0 all)
+abbrev pub takenByNode : List Node → List ℕ → List ℕ → ℕ → Option Attr → List ℕ
+takenByNode ns whole gone i none = gone
+takenByNode ns whole gone i (some a) = if (contains gone i) (λ _. gone) (λ _. takenBy ns i a gone 0 whole)
 
 abbrev pub takenUp : List Node → List ℕ → List ℕ → ℕ → List ℕ → List ℕ
-takenUp ns all gone i [] = gone
-takenUp ns all gone i (m ∷ ms) = takenUp ns all (takenByNode ns all gone i (asAttr (nodeAt ns m))) (suc i) ms
+takenUp ns whole gone i [] = gone
+takenUp ns whole gone i (m ∷ ms) = takenUp ns whole (takenByNode ns whole gone i (asAttr (nodeAt ns m))) (suc i) ms
 
 -- the members whose places, counted from i, are not gone
 abbrev pub left : List ℕ → ℕ → List ℕ → List ℕ
@@ -217,7 +221,7 @@ mergeFields got (f ∷ fs) = do
   more ← mergeField f got
   mergeFields more fs
 
-abbrev pub mergeDyn : Maybe ℕ → Maybe ℕ → Run (Maybe ℕ)
+abbrev pub mergeDyn : Option ℕ → Option ℕ → Run (Option ℕ)
 mergeDyn none new = give new
 mergeDyn (some old) none = give (some old)
 mergeDyn (some old) (some new) =
@@ -227,12 +231,12 @@ mergeDyn (some old) (some new) =
       give (some x))
 
 -- fields and dyn of the sets, one after another: dyn first, then the fields in key order
-abbrev pub mergeAttrs : List Field → Maybe ℕ → List Attr → (List Field → Maybe ℕ → Run ℕ) → Run ℕ
-mergeAttrs fs d [] then = then fs d
-mergeAttrs fs d (a ∷ sets) then = do
+abbrev pub mergeAttrs : List Field → Option ℕ → List Attr → (List Field → Option ℕ → Run ℕ) → Run ℕ
+mergeAttrs fs d [] finish = finish fs d
+mergeAttrs fs d (a ∷ sets) finish = do
   d′ ← mergeDyn d (a .dyn)
   fs′ ← mergeFields fs (a .fields)
-  mergeAttrs fs′ d′ sets then
+  mergeAttrs fs′ d′ sets finish
 
 -- "In a merge a key is optional only if optional in every set that has it"
 abbrev pub optionalInAll : List Attr → ℕ → Bool
@@ -241,7 +245,7 @@ optionalInAll sets k = all (λ (a : Attr). not (contains (fieldKeys (a .fields))
 abbrev pub openIfAll : List Attr → ℕ
 openIfAll sets = if (all (λ (a : Attr). eqb (a .isOpen) 1) sets) (λ _. 1) (λ _. 0)
 
-abbrev pub attrOf : Maybe Attr → List Attr
+abbrev pub attrOf : Option Attr → List Attr
 attrOf none = []
 attrOf (some a) = a ∷ []
 
@@ -268,7 +272,9 @@ merge-attrset-intersection ms = do
 unfoldable pub remove-redundant-negations : ℕ → List Node → List ℕ → List ℕ
 remove-redundant-negations functor ns ms =
     if (empty (filter (isConcrete ns) ms)) (λ _. ms)
-    (λ _. filter (λ (m : ℕ). not (any (λ (a : ℕ). all (λ (c : ℕ). are-output-types-disjoint functor ns c a) (filter (isConcrete ns) ms)) (innerOf (nodeAt ns m)))) ms)
+    (λ _. filter
+      (λ (m : ℕ). not (any (λ (a : ℕ). all (λ (c : ℕ). are-output-types-disjoint functor ns c a) (filter (isConcrete ns) ms)) (innerOf (nodeAt ns m))))
+      ms)
 
 -- all of one kind, and that not a primitive
 abbrev pub allSameNonPrimitive : List Node → List ℕ → Bool
@@ -335,7 +341,8 @@ simplify-union-neg-intersection functor ms = do
 -- "sorted (1 if in either pass factoring shared two or more members)"
 abbrev pub markSorted : List ℕ → Run (Unit {0})
 markSorted xs = λ s.
-    ok tt (record { nodes = s .nodes; cells = s .cells; keys = s .keys; bits = s .bits; ops = s .ops; sorted = s .sorted || ltb 1 (length xs); bailed = s .bailed })
+    ok tt (record {
+      nodes = s .nodes; cells = s .cells; keys = s .keys; bits = s .bits; ops = s .ops; sorted = s .sorted || ltb 1 (length xs); bailed = s .bailed })
 
 -- each union without the shared members
 abbrev pub remainders : List ℕ → List ℕ → Run (List ℕ)

@@ -6,9 +6,9 @@ use mathlib.Core.List.{List, [], _∷_, _++_}
 use lib.ListN.{length}
 use lib.Dec.{eqb, ltb}
 use Rattle.cells.specs.Part.{if}
-use Rattle.rules.specs.Plain.{Maybe, none, some}
 use Rattle.rules.specs.Table.{Field, Attr}
 use Rattle.rules.specs.Types.{Node, TyVar, Primitive, ListOf, Lambda, AttrSet, Union, Intersection, Named, Neg, Bottom, Top, kindOf, nodeAt}
+use mathlib.Core.Option.{Option, none, some}
 
 -- what two nodes are compared by, one after another: a list's end comes before anything that goes on
 pub data Item : Type 0 where
@@ -29,7 +29,7 @@ abbrev pub fieldItems : List Field → List Item
 fieldItems [] = end ∷ []
 fieldItems (f ∷ fs) = num (f .key) ∷ child (f .type) ∷ fieldItems fs
 
-abbrev pub dynItems : Maybe ℕ → List Item
+abbrev pub dynItems : Option ℕ → List Item
 dynItems none = end ∷ []
 dynItems (some d) = child d ∷ []
 
@@ -68,16 +68,16 @@ compareItem o (child a) (num b) = greater
 compareItem o (child a) (child b) = o a b
 
 -- the first difference decides
-abbrev pub firstOf : Order → (Unit {0} → Order) → Order
-firstOf less f = less
-firstOf equal f = f tt
-firstOf greater f = greater
+abbrev pub thenBy : Order → (Unit {0} → Order) → Order
+thenBy less f = less
+thenBy equal f = f tt
+thenBy greater f = greater
 
 abbrev pub compareItems : (ℕ → ℕ → Order) → List Item → List Item → Order
 compareItems o [] [] = equal
 compareItems o [] (y ∷ ys) = less
 compareItems o (x ∷ xs) [] = greater
-compareItems o (x ∷ xs) (y ∷ ys) = firstOf (compareItem o x y) (λ _. compareItems o xs ys)
+compareItems o (x ∷ xs) (y ∷ ys) = thenBy (compareItem o x y) (λ _. compareItems o xs ys)
 
 -- the order of nodes a and b; children have smaller numbers, so f levels reach down to the leaves where a and b are below f
 unfoldable pub order : ℕ → List Node → ℕ → ℕ → Order

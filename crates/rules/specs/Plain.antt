@@ -1,9 +1,12 @@
--- Words that the rules are written in: tests on lists, a value that may be missing, and ASCII text as bytes.
+-- Words that the rules are written in: tests on lists, a value that may be missing, and ASCII text as bytes. Of the words below them, `if`,
+-- `cell`, `part`, `run` and `eqList` are in crates/cells/specs/Part.antt.
 use mathlib.Core.Bool.{Bool, true, false}
 use Prim.Native.Nat.{ℕ, suc}
 use Prim.Native.String.{String, [] as end, _∷_ as _then_}
 use Prim.Native.Char.{code}
 use mathlib.Core.List.{List, [], _∷_, _++_}
+use mathlib.Core.Option.{Option, none, some, Option·getD}
+use lib.ListN.{length}
 use lib.Dec.{eqb, ltb}
 use Rattle.cells.specs.Part.{if}
 
@@ -12,22 +15,22 @@ abbrev pub ascii : String → List ℕ
 ascii end = []
 ascii (_then_ c s) = code c ∷ ascii s
 
-pub data Maybe (A : Type 0) : Type 0 where
-  none : Maybe A
-  some : A → Maybe A
-
 infixl 20 _>>=_
-abbrev pub _>>=_ : {A B : Type 0} → Maybe A → (A → Maybe B) → Maybe B
+abbrev pub _>>=_ : {A B : Type 0} → Option A → (A → Option B) → Option B
 _>>=_ none f = none
 _>>=_ (some a) f = f a
 
 -- a where the test holds
-abbrev pub given : {A : Type 0} → Bool → A → Maybe A
+abbrev pub given : {A : Type 0} → Bool → A → Option A
 given true a = some a
 given false a = none
 
 abbrev pub both : Bool → (Unit {0} → Bool) → Bool
 both a b = if a b (λ _. false)
+
+-- the first where the test fails: guards, one after another, in the order in which they are written
+abbrev pub unless : {A : Type 0} → Bool → (Unit {0} → A) → (Unit {0} → A) → A
+unless b refuse pass = if b pass refuse
 
 -- 1 if so, 0 if not
 abbrev pub flag : Bool → ℕ
@@ -74,7 +77,11 @@ before [] (y ∷ ys) = true
 before (x ∷ xs) [] = false
 before (x ∷ xs) (y ∷ ys) = if (eqb x y) (λ _. before xs ys) (λ _. ltb x y)
 
--- where x first stands, counted from i; past the end where it is not there
-abbrev pub position : ℕ → ℕ → List ℕ → ℕ
-position i x [] = i
-position i x (y ∷ ys) = if (eqb x y) (λ _. i) (λ _. position (suc i) x ys)
+-- the number of the first of xs that passes the test, counted from i
+abbrev pub find : {A : Type 0} → (A → Bool) → ℕ → List A → Option ℕ
+find p i [] = none
+find p i (x ∷ xs) = if (p x) (λ _. some i) (λ _. find p (suc i) xs)
+
+-- the same, counted from 0; past the end where there is none
+abbrev pub position : {A : Type 0} → (A → Bool) → List A → ℕ
+position p xs = Option·getD (find p 0 xs) (length xs)

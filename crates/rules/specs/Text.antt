@@ -1,12 +1,13 @@
 -- Text: decimals, escapes, lines, fields. A line is a keyword and fields, parted by tabs; its kind says what stands in each field.
 -- The kinds serve the reader and the printer alike.
-use mathlib.Core.Bool.{Bool, true}
+use mathlib.Core.Bool.{Bool, true, not}
 use Prim.Native.Nat.{ℕ, zero, suc, _+_, _-_, _*_, _/_, _%_}
 use mathlib.Core.List.{List, [], _∷_, _++_, map}
 use lib.ListN.{length, take, drop, getD}
 use lib.Dec.{eqb, ltb, leb}
 use Rattle.cells.specs.Part.{if, eqList, cell}
-use Rattle.rules.specs.Plain.{ascii, Maybe, none, some, _>>=_, given, joined}
+use Rattle.rules.specs.Plain.{ascii, _>>=_, given, joined}
+use mathlib.Core.Option.{Option, none, some}
 
 abbrev pub tab : ℕ
 tab = 9
@@ -43,21 +44,21 @@ abbrev pub greatest : ℕ
 greatest = 4294967295
 
 -- v with one more digit
-unfoldable pub digit : ℕ → ℕ → Maybe ℕ
+unfoldable pub digit : ℕ → ℕ → Option ℕ
 digit v b =
     if (ltb b 48) (λ _. none)
     (λ _. if (ltb 57 b) (λ _. none)
     (λ _. if (ltb greatest (v * 10 + (b - 48))) (λ _. none)
     (λ _. some (v * 10 + (b - 48)))))
 
-abbrev pub digits : ℕ → List ℕ → Maybe ℕ
+abbrev pub digits : ℕ → List ℕ → Option ℕ
 digits v [] = some v
 digits v (b ∷ bs) = do
   x ← digit v b
   digits x bs
 
 -- no leading zero except 0 itself
-unfoldable pub number : List ℕ → Maybe ℕ
+unfoldable pub number : List ℕ → Option ℕ
 number [] = none
 number (b ∷ []) = digits 0 (b ∷ [])
 number (b ∷ c ∷ bs) = if (eqb b 48) (λ _. none) (λ _. digits 0 (b ∷ c ∷ bs))
@@ -71,7 +72,7 @@ unfoldable pub decimal : ℕ → List ℕ
 decimal n = decimalBy n n
 
 -- Lists are parted by commas; `one` reads an element, and its words stand back to back
-abbrev pub elements : (List ℕ → Maybe (List ℕ)) → List (List ℕ) → Maybe (List ℕ)
+abbrev pub elements : (List ℕ → Option (List ℕ)) → List (List ℕ) → Option (List ℕ)
 elements one [] = some []
 elements one (p ∷ ps) = do
   x ← one p
@@ -79,21 +80,21 @@ elements one (p ∷ ps) = do
   some (x ++ xs)
 
 -- a list of elements of w words each: how many there are, then their words
-abbrev pub counted : ℕ → Maybe (List ℕ) → Maybe (List ℕ)
+abbrev pub counted : ℕ → Option (List ℕ) → Option (List ℕ)
 counted w m = do
   xs ← m
   some (length xs / w ∷ xs)
 
-abbrev pub listOf : ℕ → (List ℕ → Maybe (List ℕ)) → List ℕ → Maybe (List ℕ)
+abbrev pub listOf : ℕ → (List ℕ → Option (List ℕ)) → List ℕ → Option (List ℕ)
 listOf w one f = if (eqList f dash) (λ _. some (0 ∷ [])) (λ _. counted w (elements one (pieces comma f)))
 
-abbrev pub single : List ℕ → Maybe (List ℕ)
+abbrev pub single : List ℕ → Option (List ℕ)
 single f = do
   n ← number f
   some (n ∷ [])
 
 -- Set fields are `key:id`
-abbrev pub keyed : List (List ℕ) → Maybe (List ℕ)
+abbrev pub keyed : List (List ℕ) → Option (List ℕ)
 keyed [] = none
 keyed (k ∷ []) = none
 keyed (k ∷ i ∷ []) = do
@@ -114,33 +115,29 @@ hex b =
 unfoldable pub escaped : ℕ → Bool
 escaped b = if (ltb b 32) (λ _. true) (λ _. if (eqb b 92) (λ _. true) (λ _. eqb b 127))
 
--- what a byte of a written name does: it is out of place, it goes on to another state, or it ends a byte of the name
-pub data Step : Type 0 where
-  bad : Step
-  move : ℕ → Step
-  put : ℕ → Step
+-- a byte that stands for itself
+abbrev pub plain : ℕ → Option ℕ
+plain b = given (not (escaped b)) b
 
--- a byte in state 0 (plain), 1 (after a backslash), 2 + h (after the digit h too)
-unfoldable pub next : ℕ → ℕ → Step
-next st b =
-    if (eqb st 0)
-    (λ _. if (eqb b 92) (λ _. move 1) (λ _. if (escaped b) (λ _. bad) (λ _. put b)))
-    (λ _. if (ltb 15 (hex b)) (λ _. bad)
-    (λ _. if (eqb st 1) (λ _. move (2 + hex b))
-    (λ _. if (escaped ((st - 2) * 16 + hex b)) (λ _. put ((st - 2) * 16 + hex b)) (λ _. bad))))
+-- the byte that two hex digits after a backslash say: only one that is written so
+abbrev pub escape : ℕ → ℕ → Option ℕ
+escape h l =
+    if (ltb 15 (hex h)) (λ _. none)
+    (λ _. if (ltb 15 (hex l)) (λ _. none)
+    (λ _. given (escaped (hex h * 16 + hex l)) (hex h * 16 + hex l)))
 
-abbrev pub after : Step → (ℕ → Maybe (List ℕ)) → Maybe (List ℕ)
-after bad f = none
-after (move st) f = f st
-after (put x) f = f 0 >>= (λ (xs : List ℕ). some (x ∷ xs))
+abbrev pub putByte : Option ℕ → Option (List ℕ) → Option (List ℕ)
+putByte byte rest = do
+  x ← byte
+  xs ← rest
+  some (x ∷ xs)
 
-abbrev pub chars : ℕ → List ℕ → Maybe (List ℕ)
-chars zero [] = some []
-chars (suc st) [] = none
-chars st (b ∷ bs) = after (next st b) (λ (q : ℕ). chars q bs)
-
-unfoldable pub name : List ℕ → Maybe (List ℕ)
-name f = chars 0 f
+-- the bytes of a written name; a backslash stands before two hex digits
+unfoldable pub name : List ℕ → Option (List ℕ)
+name [] = some []
+name (b ∷ []) = putByte (plain b) (some [])
+name (b ∷ c ∷ []) = putByte (plain b) (name (c ∷ []))
+name (b ∷ c ∷ d ∷ bs) = if (eqb b 92) (λ _. putByte (escape c d) (name bs)) (λ _. putByte (plain b) (name (c ∷ d ∷ bs)))
 
 -- what can stand in a field
 abbrev pub aNumber : ℕ
@@ -172,19 +169,19 @@ abbrev pub aName : ℕ
 aName = 7
 
 -- a number of at most m
-abbrev pub upTo : ℕ → List ℕ → Maybe (List ℕ)
+abbrev pub upTo : ℕ → List ℕ → Option (List ℕ)
 upTo m f = do
   n ← number f
   given (leb n m) (n ∷ [])
 
-abbrev pub signOf : List ℕ → Maybe (List ℕ)
+abbrev pub signOf : List ℕ → Option (List ℕ)
 signOf f = if (eqList f (ascii "+")) (λ _. some (0 ∷ [])) (λ _. given (eqList f dash) (1 ∷ []))
 
-abbrev pub dynOf : List ℕ → Maybe (List ℕ)
+abbrev pub dynOf : List ℕ → Option (List ℕ)
 dynOf f = if (eqList f dash) (λ _. some (0 ∷ [])) (λ _. counted 1 (single f))
 
 -- the words that a field is read as: a number itself, + as 0 and - as 1, a list its length and its elements, a name its bytes
-unfoldable pub fieldOf : ℕ → List ℕ → Maybe (List ℕ)
+unfoldable pub fieldOf : ℕ → List ℕ → Option (List ℕ)
 fieldOf k f =
     if (eqb k aNumber) (λ _. single f)
     (λ _. if (eqb k aCode) (λ _. upTo 31 f)
@@ -197,7 +194,7 @@ fieldOf k f =
     (λ _. none))))))))
 
 -- as many fields as the shape says, each as it says
-abbrev pub byShape : List ℕ → List (List ℕ) → Maybe (List ℕ)
+abbrev pub byShape : List ℕ → List (List ℕ) → Option (List ℕ)
 byShape [] [] = some []
 byShape [] (p ∷ ps) = none
 byShape (k ∷ ks) [] = none
@@ -206,25 +203,27 @@ byShape (k ∷ ks) (p ∷ ps) = do
   xs ← byShape ks ps
   some (x ++ xs)
 
+-- a kind of line: its keyword, the section of a table that it belongs to, and what stands in each field
 pub record Kind : Type 0 where
   pub word : List ℕ
+  pub section : ℕ
   pub shape : List ℕ
 
-abbrev pub tagged : ℕ → Maybe (List ℕ) → Maybe (List ℕ)
+abbrev pub tagged : ℕ → Option (List ℕ) → Option (List ℕ)
 tagged n m = do
   xs ← m
   some (n ∷ xs)
 
 -- the row of a line with keyword w: the number of its kind, counted from n, then the words of its fields
-abbrev pub recordIn : List Kind → ℕ → List ℕ → List (List ℕ) → Maybe (List ℕ)
+abbrev pub recordIn : List Kind → ℕ → List ℕ → List (List ℕ) → Option (List ℕ)
 recordIn [] n w fs = none
 recordIn (k ∷ ks) n w fs = if (eqList w (k .word)) (λ _. tagged n (byShape (k .shape) fs)) (λ _. recordIn ks (suc n) w fs)
 
-abbrev pub byWord : List Kind → List (List ℕ) → Maybe (List ℕ)
+abbrev pub byWord : List Kind → List (List ℕ) → Option (List ℕ)
 byWord ks [] = none
 byWord ks (w ∷ fs) = recordIn ks 0 w fs
 
-unfoldable pub rowOf : List Kind → List ℕ → Maybe (List ℕ)
+unfoldable pub rowOf : List Kind → List ℕ → Option (List ℕ)
 rowOf ks l = byWord ks (pieces tab l)
 
 -- the printer: how many words a field takes, and how it is written
@@ -265,7 +264,7 @@ shapeTexts [] ws = []
 shapeTexts (k ∷ ks) ws = fieldText k (take (wordsOf k ws) ws) ∷ shapeTexts ks (drop (wordsOf k ws) ws)
 
 abbrev pub noKind : Kind
-noKind = record { word = []; shape = [] }
+noKind = record { word = []; section = 0; shape = [] }
 
 abbrev pub kindText : Kind → List ℕ → List (List ℕ)
 kindText k ws = k .word ∷ shapeTexts (k .shape) ws

@@ -1,16 +1,17 @@
 -- Types: polarity, nodes, the state of a pass, and the store with limits 7, 8 and 9.
 use mathlib.Core.Bool.{Bool, true, false}
-use Prim.Native.Nat.{ℕ, suc, _+_, _*_}
+use Prim.Native.Nat.{ℕ, _+_, _*_}
 use mathlib.Core.List.{List, [], _∷_, _++_, map}
 use lib.ListN.{length, getD, set}
 use lib.Dec.{eqb, ltb}
 use Rattle.cells.specs.Part.{if, eqList}
-use Rattle.rules.specs.Plain.{ascii, Maybe, none, some}
+use Rattle.rules.specs.Plain.{ascii, unless, find}
 use Rattle.rules.specs.Ceilings.{mostMembers, mostNodes, mostCells}
 use Rattle.rules.specs.Text.{Kind, aNumber, aCode, aFlag, aList, aDyn, someFields}
-use Rattle.rules.specs.Table.{Field, Attr, attrKids, kind}
+use Rattle.rules.specs.Table.{Field, Attr, attrKids}
 use Rattle.rules.specs.declared.Polarity.{Polarity}
 use Rattle.rules.specs.declared.Polarity.the-variants.{Positive, Negative}
+use mathlib.Core.Option.{Option, none, some}
 
 -- Polarity::flip
 abbrev pub flip : Polarity → Polarity
@@ -43,7 +44,44 @@ pub data Node : Type 0 where
   Bottom : Node
   Top : Node
 
--- the kinds of nodes, in OutputTy's order, as a listing writes them
+-- the kinds of nodes by number, in OutputTy's order
+abbrev pub tyVarKind : ℕ
+tyVarKind = 0
+
+abbrev pub primitiveKind : ℕ
+primitiveKind = 1
+
+abbrev pub listKind : ℕ
+listKind = 2
+
+abbrev pub lambdaKind : ℕ
+lambdaKind = 3
+
+abbrev pub attrSetKind : ℕ
+attrSetKind = 4
+
+abbrev pub unionKind : ℕ
+unionKind = 5
+
+abbrev pub intersectionKind : ℕ
+intersectionKind = 6
+
+abbrev pub namedKind : ℕ
+namedKind = 7
+
+abbrev pub negKind : ℕ
+negKind = 8
+
+abbrev pub bottomKind : ℕ
+bottomKind = 9
+
+abbrev pub topKind : ℕ
+topKind = 10
+
+abbrev pub kind : List ℕ → List ℕ → Kind
+kind word shape = record { word = word; section = 0; shape = shape }
+
+-- the same kinds as a listing writes them; they belong to no section
 abbrev pub nodeKinds : List Kind
 nodeKinds =
     kind (ascii "tyvar") (aNumber ∷ [])
@@ -63,7 +101,7 @@ abbrev pub fieldWords : List Field → List ℕ
 fieldWords [] = []
 fieldWords (f ∷ fs) = f .key ∷ f .type ∷ fieldWords fs
 
-abbrev pub dynWords : Maybe ℕ → List ℕ
+abbrev pub dynWords : Option ℕ → List ℕ
 dynWords none = 0 ∷ []
 dynWords (some d) = 1 ∷ d ∷ []
 
@@ -72,17 +110,17 @@ attrWords a = length (a .fields) ∷ (fieldWords (a .fields) ++ dynWords (a .dyn
 
 -- a node as a row: the number of its kind, then the words of its fields. Two nodes are equal if their rows are
 abbrev pub encode : Node → List ℕ
-encode (TyVar x) = 0 ∷ x ∷ []
-encode (Primitive c) = 1 ∷ c ∷ []
-encode (ListOf a) = 2 ∷ a ∷ []
-encode (Lambda a b) = 3 ∷ a ∷ b ∷ []
-encode (AttrSet a) = 4 ∷ attrWords a
-encode (Union ms) = 5 ∷ length ms ∷ ms
-encode (Intersection ms) = 6 ∷ length ms ∷ ms
-encode (Named n a) = 7 ∷ n ∷ a ∷ []
-encode (Neg a) = 8 ∷ a ∷ []
-encode Bottom = 9 ∷ []
-encode Top = 10 ∷ []
+encode (TyVar x) = tyVarKind ∷ x ∷ []
+encode (Primitive c) = primitiveKind ∷ c ∷ []
+encode (ListOf a) = listKind ∷ a ∷ []
+encode (Lambda a b) = lambdaKind ∷ a ∷ b ∷ []
+encode (AttrSet a) = attrSetKind ∷ attrWords a
+encode (Union ms) = unionKind ∷ length ms ∷ ms
+encode (Intersection ms) = intersectionKind ∷ length ms ∷ ms
+encode (Named n a) = namedKind ∷ n ∷ a ∷ []
+encode (Neg a) = negKind ∷ a ∷ []
+encode Bottom = bottomKind ∷ []
+encode Top = topKind ∷ []
 
 abbrev pub kindOf : Node → ℕ
 kindOf n = getD (encode n) 0 0
@@ -101,7 +139,7 @@ members (Neg a) = []
 members Bottom = []
 members Top = []
 
-abbrev pub asAttr : Node → Maybe Attr
+abbrev pub asAttr : Node → Option Attr
 asAttr (TyVar x) = none
 asAttr (Primitive c) = none
 asAttr (ListOf a) = none
@@ -129,7 +167,7 @@ children Bottom = []
 children Top = []
 
 -- "Cells are 1 for each union or intersection member, 2 for each field, 1 for each optional key"
-abbrev pub attrCells : Maybe Attr → ℕ
+abbrev pub attrCells : Option Attr → ℕ
 attrCells none = 0
 attrCells (some a) = 2 * length (a .fields) + length (a .optional)
 
@@ -173,33 +211,25 @@ refuse k = λ s. no k
 abbrev pub ask : {A : Type 0} → (List Node → A) → Run A
 ask f = λ s. ok (f (s .nodes)) s
 
-pub data Found : Type 0 where
-  at : ℕ → Found
-  nowhere : Found
-
--- the first row of rs that is e, counted from i
-abbrev pub find : List ℕ → List (List ℕ) → ℕ → Found
-find e [] i = nowhere
-find e (r ∷ rs) i = if (eqList e r) (λ _. at i) (λ _. find e rs (suc i))
-
 -- a new node at the end
 abbrev pub grown : Node → State → State
 grown n s =
-    record { nodes = s .nodes ++ (n ∷ []); cells = s .cells + cellsOf n; keys = s .keys; bits = s .bits; ops = s .ops; sorted = s .sorted; bailed = s .bailed }
+    record {
+      nodes = s .nodes ++ (n ∷ []); cells = s .cells + cellsOf n; keys = s .keys; bits = s .bits; ops = s .ops; sorted = s .sorted; bailed = s .bailed }
 
 -- "Storing an equal node again takes nothing"; 8 before 9
-abbrev pub keep : Node → State → Found → Out ℕ
-keep n s (at i) = ok i s
-keep n s nowhere =
-    if (ltb (length (s .nodes)) mostNodes)
-    (λ _. if (ltb mostCells (s .cells + cellsOf n)) (λ _. no 9) (λ _. ok (length (s .nodes)) (grown n s)))
-    (λ _. no 8)
+abbrev pub keep : Node → State → Option ℕ → Out ℕ
+keep n s (some i) = ok i s
+keep n s none =
+    unless (ltb (length (s .nodes)) mostNodes) (λ _. no 8)
+    (λ _. if (ltb mostCells (s .cells + cellsOf n)) (λ _. no 9)
+    (λ _. ok (length (s .nodes)) (grown n s)))
 
 -- TypeArena::intern: the number of the node that equals n, or of n as a new node; 7 first
 unfoldable pub store : Node → Run ℕ
 store n = λ s.
     if (ltb mostMembers (length (members n))) (λ _. no 7)
-    (λ _. keep n s (find (encode n) (map encode (s .nodes)) 0))
+    (λ _. keep n s (find (eqList (encode n)) 0 (map encode (s .nodes))))
 
 -- 7: "a member list .. going into or out of a rule .. would pass 128"
 unfoldable pub limit : List ℕ → Run (List ℕ)
@@ -211,36 +241,3 @@ nodeAt ns x = getD ns x Bottom
 
 abbrev pub is : List Node → ℕ → ℕ → Bool
 is ns k x = eqb (kindOf (nodeAt ns x)) k
-
-abbrev pub tyVarKind : ℕ
-tyVarKind = 0
-
-abbrev pub primitiveKind : ℕ
-primitiveKind = 1
-
-abbrev pub listKind : ℕ
-listKind = 2
-
-abbrev pub lambdaKind : ℕ
-lambdaKind = 3
-
-abbrev pub attrSetKind : ℕ
-attrSetKind = 4
-
-abbrev pub unionKind : ℕ
-unionKind = 5
-
-abbrev pub intersectionKind : ℕ
-intersectionKind = 6
-
-abbrev pub namedKind : ℕ
-namedKind = 7
-
-abbrev pub negKind : ℕ
-negKind = 8
-
-abbrev pub bottomKind : ℕ
-bottomKind = 9
-
-abbrev pub topKind : ℕ
-topKind = 10

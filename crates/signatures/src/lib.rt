@@ -1,12 +1,17 @@
 // The public calls over byte slices for a Rust or C host: `answers` has what a call comes to, `canon_call` and `recheck_call` the calls.
+ghost use Rattle.canon_call.specs.Called.{Canon, CanonRoot};
+ghost use Rattle.recheck_call.specs.Rechecked.{Rechecked};
+ghost use Rattle.signatures.specs.Exports.{Code, Exported};
 use answers::outcome::Outcome;
 use canon_call::canon;
 use canon_call::canon_root;
 use recheck_call::recheck;
 
-// An outcome as one number: a refusal's number and line, or 0 and the length written.
-pub fn code(r: Outcome) -> u64 {
-    match r {
+// An outcome as one number: a refusal's number and line, or 0 and the length written. It tells no other outcome of a call.
+pub fn code(outcome: Outcome) -> u64
+    ensures { λ r. ⌜ Code outcome r ⌝ }
+{
+    match outcome {
         Outcome::Written(n) => n as u64,
         Outcome::Refused(k, l) => k as u64 * 4294967296 + l as u64,
     }
@@ -20,7 +25,9 @@ pub extern "C" fn pekonusit_canon(
     table: &mut [u32],
     arena: &mut [u32],
     work: &mut [u32],
-) -> u64 {
+) -> u64
+    ensures { λ r. ⌜ Exported (Canon (now (text .entry)) (now (out .entry)) (now (draft .entry)) (now (table .entry)) (now (arena .entry)) (now (work .entry)) (now (out .exit)) (now (draft .exit)) (now (table .exit)) (now (arena .exit)) (now (work .exit))) r ⌝ }
+{
     code(canon(text, out, draft, table, arena, work))
 }
 
@@ -34,7 +41,9 @@ pub extern "C" fn pekonusit_canon_root(
     table: &mut [u32],
     arena: &mut [u32],
     work: &mut [u32],
-) -> u64 {
+) -> u64
+    ensures { λ r. ⌜ Exported (CanonRoot (now (text .entry)) id sign (now (out .entry)) (now (draft .entry)) (now (table .entry)) (now (arena .entry)) (now (work .entry)) (now (out .exit)) (now (draft .exit)) (now (table .exit)) (now (arena .exit)) (now (work .exit))) r ⌝ }
+{
     code(canon_root(text, id, sign, out, draft, table, arena, work))
 }
 
@@ -49,6 +58,8 @@ pub extern "C" fn pekonusit_recheck(
     table: &mut [u32],
     arena: &mut [u32],
     work: &mut [u32],
-) -> u64 {
+) -> u64
+    ensures { λ r. ⌜ Exported (Rechecked (now («old_text» .entry)) (now («new_text» .entry)) (now (listing .entry)) (now (out .entry)) (now (draft .entry)) (now (old .entry)) (now (table .entry)) (now (arena .entry)) (now (work .entry)) (now (out .exit)) (now (draft .exit)) (now (old .exit)) (now (table .exit)) (now (arena .exit)) (now (work .exit))) r ⌝ }
+{
     code(recheck(old_text, new_text, listing, out, draft, old, table, arena, work))
 }

@@ -7,16 +7,17 @@ use mathlib.Core.List.{List}
 use lib.ListN.{length, getD, drop, length-map}
 use lib.Dec.{eqb}
 use borrow.Author.Tests.{eqb-true, eqb-false, eq-eqb, ne-eqb, not-true, not-false}
-use Rattle.rules.specs.Plain.{Maybe, none, some, all, contains, both}
+use Rattle.rules.specs.Plain.{all, contains, both}
 use Rattle.rules.specs.Table.{Field, Attr, attrAt, fieldKeys, dynIds}
-use Rattle.rules.specs.Members.{sameDyn, subsumes, subsumesNode}
+use Rattle.rules.specs.Members.{noDynOrSame, subsumes, subsumesNode}
 use Rattle.rules.specs.Types.{Node, TyVar, Primitive, ListOf, Lambda, AttrSet, Union, Intersection, Named, Neg, Bottom, Top, encode, kindOf, nodeAt, asAttr}
-use Rattle.rules.proofs.Rows.{node-of}
+use Rattle.laws.proofs.Rows.{node-of}
 use Rattle.lang_ty.specs.Nodes.{Is}
 use Rattle.lang_ty.specs.Shapes.{SetPlace}
 use Rattle.lang_ty.specs.Sets.{SetAt, Fields, Key, HasField, HasOptional, Dyns, DynType, Open}
 use Rattle.simplify.specs.Unions.{covers, Covered, FieldsCover, DynCovers, Subsumes}
-use Rattle.rules.proofs.Filtering.{all-here, all-more, all-done}
+use Rattle.laws.proofs.Filtering.{all-here, all-more, all-done}
+use mathlib.Core.Option.{Option, none, some}
 
 pub covered-optional : {w : List ℕ} {a b k : ℕ} {c : Bool} → HasOptional w a k c → c ≡ true → Covered w a b k true
 covered-optional {k = k} o e = record { is = λ {t} {u} s v. ap (λ (x : Bool). x || contains (fieldKeys (u .fields)) k) (sym e ∙ o .is s) }
@@ -62,16 +63,16 @@ module _ {w : List ℕ} {a b n : ℕ} where
       }
 
 -- two dyns, by how many there are
-same-none : (d e : Maybe ℕ) → length (dynIds d) ≡ 0 → sameDyn d e ≡ true
+same-none : (d e : Option ℕ) → length (dynIds d) ≡ 0 → noDynOrSame d e ≡ true
 same-none none e h = refl
 same-none (some a) e h = absurd (omega arith)
 
-same-alone : (d e : Maybe ℕ) → (length (dynIds d) ≡ 0 → ⊥) → length (dynIds e) ≡ 0 → sameDyn d e ≡ false
+same-alone : (d e : Option ℕ) → (length (dynIds d) ≡ 0 → ⊥) → length (dynIds e) ≡ 0 → noDynOrSame d e ≡ false
 same-alone none e h g = absurd (h refl)
 same-alone (some a) none h g = refl
 same-alone (some a) (some b) h g = absurd (omega arith)
 
-same-both : (d e : Maybe ℕ) → (length (dynIds d) ≡ 0 → ⊥) → (length (dynIds e) ≡ 0 → ⊥) → sameDyn d e ≡ eqb (getD (dynIds d) 0 0) (getD (dynIds e) 0 0)
+same-both : (d e : Option ℕ) → (length (dynIds d) ≡ 0 → ⊥) → (length (dynIds e) ≡ 0 → ⊥) → noDynOrSame d e ≡ eqb (getD (dynIds d) 0 0) (getD (dynIds e) 0 0)
 same-both none e h g = absurd (h refl)
 same-both (some a) none h g = absurd (g refl)
 same-both (some a) (some b) h g = refl
@@ -132,12 +133,12 @@ module _ {w : List ℕ} {x y : ℕ} {c : Bool} (k : Is w 4 y c) where
     module _ {o : ℕ} (first : Open w a o) where
       pub subsumes-closed : (o ≡ 1 → ⊥) → Subsumes w x y false
       subsumes-closed f =
-          sets (λ t u m v. sym (ap (λ (p : Bool). chain p (eqb (u .isOpen) 1) (sameDyn (t .dyn) (u .dyn)) (all (covers t u) (fieldKeys (t .fields)))) (ne-eqb (t .isOpen) 1 (λ z. f (first .is m ∙ z)))))
+          sets (λ t u m v. sym (ap (λ (p : Bool). chain p (eqb (u .isOpen) 1) (noDynOrSame (t .dyn) (u .dyn)) (all (covers t u) (fieldKeys (t .fields)))) (ne-eqb (t .isOpen) 1 (λ z. f (first .is m ∙ z)))))
 
       module _ {j : ℕ} (f : o ≡ 1) (second : Open w b j) where
         pub subsumes-shut : (j ≡ 1 → ⊥) → Subsumes w x y false
         subsumes-shut g =
-            sets (λ t u m v. sym (ap₂ (λ (p q : Bool). chain p q (sameDyn (t .dyn) (u .dyn)) (all (covers t u) (fieldKeys (t .fields)))) (eq-eqb (t .isOpen) 1 (sym (first .is m) ∙ f)) (ne-eqb (u .isOpen) 1 (λ z. g (second .is v ∙ z)))))
+            sets (λ t u m v. sym (ap₂ (λ (p q : Bool). chain p q (noDynOrSame (t .dyn) (u .dyn)) (all (covers t u) (fieldKeys (t .fields)))) (eq-eqb (t .isOpen) 1 (sym (first .is m) ∙ f)) (ne-eqb (u .isOpen) 1 (λ z. g (second .is v ∙ z)))))
 
         module _ {d : Bool} (g : j ≡ 1) (dyn : DynCovers w a b d) where
           opened : {r : Bool} → ((t u : Attr) → SetAt w a t → SetAt w b u → r ≡ both d (λ _. all (covers t u) (fieldKeys (t .fields)))) → Subsumes w x y r
@@ -145,7 +146,7 @@ module _ {w : List ℕ} {x y : ℕ} {c : Bool} (k : Is w 4 y c) where
               sets (λ t u m v.
                 h t u m v
                 ∙ ap (λ (z : Bool). both z (λ _. all (covers t u) (fieldKeys (t .fields)))) (dyn .is m v)
-                ∙ sym (ap₂ (λ (p q : Bool). chain p q (sameDyn (t .dyn) (u .dyn)) (all (covers t u) (fieldKeys (t .fields)))) (eq-eqb (t .isOpen) 1 (sym (first .is m) ∙ f)) (eq-eqb (u .isOpen) 1 (sym (second .is v) ∙ g))))
+                ∙ sym (ap₂ (λ (p q : Bool). chain p q (noDynOrSame (t .dyn) (u .dyn)) (all (covers t u) (fieldKeys (t .fields)))) (eq-eqb (t .isOpen) 1 (sym (first .is m) ∙ f)) (eq-eqb (u .isOpen) 1 (sym (second .is v) ∙ g))))
 
           pub subsumes-dyn : not d ≡ true → Subsumes w x y false
           subsumes-dyn h = opened (λ t u m v. sym (ap (λ (z : Bool). both z (λ _. all (covers t u) (fieldKeys (t .fields)))) (not-true d h)))

@@ -7,11 +7,11 @@ use mathlib.Core.List.{List, [], _∷_, _++_}
 use lib.ListN.{length, getD}
 use lib.Dec.{eqb}
 use borrow.Author.Tests.{eqb-true, eqb-false, eq-eqb, ne-eqb, not-true, not-false}
-use Rattle.cells.specs.Part.{part, if, Under}
+use Rattle.cells.specs.Part.{part, if}
 use Rattle.rules.specs.Plain.{any, filter, contains, both}
 use Rattle.rules.specs.Types.{Node, TyVar, Primitive, ListOf, Lambda, AttrSet, Union, Intersection, Named, Neg, Bottom, Top, encode, kindOf, children, nodeAt, is}
 use Rattle.rules.specs.Members.{innerOf, negatedInners, isPositive, remove-tautological-pairs}
-use Rattle.rules.proofs.Rows.{node-of, by-kind}
+use Rattle.laws.proofs.Rows.{node-of, by-kind}
 use Rattle.lang_ty.specs.declared.arena.Pass.{Pass}
 use Rattle.lang_ty.specs.Nodes.{Arena, Word, Is}
 use Rattle.lang_ty.proofs.Words.{word-of}
@@ -19,6 +19,7 @@ use Rattle.members.specs.declared.lists.Members.{Members}
 use Rattle.members.specs.Lists.{Makes, Tests, Asks, Contains}
 use Rattle.simplify.specs.Unions.{negates, hasNegation, halved, Cancels}
 use Rattle.members.proofs.Gathered.{listOf, Sifting, sifting-done, Tried}
+use Rattle.cells.specs.Placed.{Under}
 
 -- laws of the rules' lists
 or-false : (b : Bool) → b || false ≡ b

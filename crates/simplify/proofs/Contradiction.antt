@@ -8,7 +8,7 @@ use mathlib.Core.List.{List, [], _∷_}
 use lib.ListN.{length, getD, drop, drop-of-length-le}
 use lib.Seq.{drop-cons}
 use borrow.Author.Tests.{eqb-true, eqb-false, eq-eqb, ne-eqb, not-true, not-false}
-use Rattle.cells.specs.Part.{cell, if, Under}
+use Rattle.cells.specs.Part.{cell, if}
 use Rattle.rules.specs.Plain.{any, all, filter, both}
 use Rattle.rules.specs.Types.{Node, kindOf, children, nodeAt, is}
 use Rattle.rules.specs.Members.{innerOf, negatedInners, isPositive, is-output-subtype-or-equal, are-output-types-disjoint, allSameNonPrimitive, disjointPair, subsumedByNegation, has-type-contradiction}
@@ -18,10 +18,11 @@ use Rattle.lang_ty.specs.Shapes.{Disjoint}
 use Rattle.members.specs.declared.lists.Members.{Members}
 use Rattle.members.specs.Lists.{Taken, Makes, Tests, Asks, sift, firstOf, Pairs}
 use Rattle.simplify.specs.Intersections.{Probes, Beside, negatedBy, negated, subsumed}
-use Rattle.rules.proofs.Filtering.{all-here, all-more, all-done}
+use Rattle.laws.proofs.Filtering.{all-here, all-more, all-done}
 use Rattle.members.proofs.Gathered.{few-at, few-below, Tried}
 use Rattle.simplify.proofs.Cancelled.{inners-any, no-inner, once}
 use Rattle.members.proofs.Negated.{neg-at}
+use Rattle.cells.specs.Placed.{Under}
 
 -- `is_negated_by` and `is_negated`
 module _ {w : List ℕ} {x m : ℕ} {b : Bool} (neg : Is w 8 m b) where

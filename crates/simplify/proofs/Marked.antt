@@ -9,22 +9,24 @@ use lib.ListN.{length, getD, drop, set, replicate, length-set, length-append, le
 use lib.Seq.{drop-cons, getD-set-same, getD-set-other}
 use lib.Dec.{eqb}
 use borrow.Author.Tests.{eqb-true, eqb-false, eq-eqb, ne-eqb, not-true, not-false}
-use Rattle.cells.specs.Part.{cell, if, Under}
+use Rattle.cells.specs.Part.{cell, if}
 use Rattle.rules.specs.Ceilings.{mostMembers}
-use Rattle.rules.specs.Plain.{Maybe, none, some, contains, both}
+use Rattle.rules.specs.Plain.{contains, both}
 use Rattle.rules.specs.Table.{Attr, attrAt}
 use Rattle.rules.specs.Types.{Node, AttrSet, encode, kindOf, nodeAt, asAttr}
 use Rattle.rules.specs.Members.{subsumesNode, takenBy, takenByNode, takenUp, left, absorb-subsumed-union-members}
-use Rattle.rules.proofs.Rows.{node-of}
+use Rattle.laws.proofs.Rows.{node-of}
 use Rattle.lang_ty.specs.declared.arena.Pass.{Pass}
 use Rattle.lang_ty.specs.Nodes.{Arena, Is}
 use Rattle.members.specs.declared.lists.Members.{Members}
 use Rattle.members.specs.Lists.{Taken, Makes, Gathered, only, KeepsIf}
 use Rattle.simplify.specs.Unions.{Subsumes, Marked, MarksIf, Takes, MarksTaken, Leaves}
-use Rattle.rules.proofs.Filtering.{under-both}
+use Rattle.laws.proofs.Filtering.{under-both}
 use Rattle.members.proofs.Gathered.{listOf, few-at, few-below, gathered-none, gathered-few}
 use Rattle.simplify.proofs.Cancelled.{any-both, once}
 use Rattle.simplify.proofs.Absorbed.{no-attr}
+use Rattle.cells.specs.Placed.{Under}
+use mathlib.Core.Option.{Option, none, some}
 
 -- no place is marked, and one more
 pub marked-none : Marked (replicate mostMembers 0) []
@@ -87,7 +89,7 @@ module _ {w ms gone : List ℕ} {i x j : ℕ} where
         }
 
 -- the ways of `mark_taken`: the member is gone itself, is no set, or takes up others
-node-gone : (ns : List Node) (xs ps : List ℕ) (i : ℕ) (a : Maybe Attr) → contains ps i ≡ true → takenByNode ns xs ps i a ≡ ps
+node-gone : (ns : List Node) (xs ps : List ℕ) (i : ℕ) (a : Option Attr) → contains ps i ≡ true → takenByNode ns xs ps i a ≡ ps
 node-gone ns xs ps i none e = refl
 node-gone ns xs ps i (some a) e = ap (λ (b : Bool). if b (λ _. ps) (λ _. takenBy ns i a ps 0 xs)) e
 

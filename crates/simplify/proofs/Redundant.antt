@@ -6,11 +6,11 @@ use native.Mathlib.Omega.{arith}
 use mathlib.Core.List.{List, [], _∷_}
 use lib.ListN.{length, getD, drop}
 use borrow.Author.Tests.{eqb-true, eqb-false, eq-eqb, ne-eqb, not-true, not-false}
-use Rattle.cells.specs.Part.{cell, if, Under}
+use Rattle.cells.specs.Part.{cell, if}
 use Rattle.rules.specs.Plain.{any, all, filter, empty, both}
 use Rattle.rules.specs.Types.{Node, TyVar, Primitive, ListOf, Lambda, AttrSet, Union, Intersection, Named, Neg, Bottom, Top, encode, kindOf, children, nodeAt}
 use Rattle.rules.specs.Members.{innerOf, isConcrete, Shape, primitiveS, shapeOf, primitivesBelow, is-output-subtype-or-equal, are-output-types-disjoint, remove-redundant-negations}
-use Rattle.rules.proofs.Rows.{node-of, by-kind}
+use Rattle.laws.proofs.Rows.{node-of, by-kind}
 use Rattle.lang_ty.specs.declared.arena.Pass.{Pass}
 use Rattle.lang_ty.specs.Nodes.{Arena, Word, Is}
 use Rattle.lang_ty.specs.Shapes.{Disjoint, Subtype}
@@ -18,10 +18,11 @@ use Rattle.lang_ty.proofs.Words.{word-of}
 use Rattle.members.specs.declared.lists.Members.{Members}
 use Rattle.members.specs.Lists.{Taken, Makes, Tests, Asks, firstOf, Pairs}
 use Rattle.simplify.specs.Intersections.{Probes, Beside, anyConcrete, overlap, redundant}
-use Rattle.rules.proofs.Filtering.{any-here, any-more, any-done}
+use Rattle.laws.proofs.Filtering.{any-here, any-more, any-done}
 use Rattle.members.proofs.Gathered.{few-at, few-below, Tried}
 use Rattle.simplify.proofs.Cancelled.{no-inner, once}
 use Rattle.members.proofs.Negated.{neg-at}
+use Rattle.cells.specs.Placed.{Under}
 
 -- all of those that c says, and none that c says and p does not
 all-turn : (p c : ℕ → Bool) (x : ℕ) (xs : List ℕ) (r b d : Bool) → p x ≡ d → all p (filter c xs) ≡ not r

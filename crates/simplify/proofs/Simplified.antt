@@ -9,12 +9,12 @@ use lib.ListN.{length, getD, take, drop, replicate, length-append, length-replic
 use lib.Seq.{drop-cons, take-all, length-take-le}
 use lib.Dec.{eqb, ltb}
 use borrow.Author.Tests.{not-true, not-false}
-use Rattle.cells.specs.Part.{cell, if, Under}
+use Rattle.cells.specs.Part.{cell, if}
 use Rattle.rules.specs.Ceilings.{mostMembers}
 use Rattle.rules.specs.Plain.{any, filter, empty, both}
 use Rattle.rules.specs.Types.{Node, TyVar, Primitive, ListOf, Lambda, AttrSet, Union, Intersection, Named, Neg, Bottom, Top, State, Out, ok, no, Run, bind, _>>=_, give, ask, store, kindOf, nodeAt, is}
 use Rattle.rules.specs.Members.{membersAt, innerOf, negatedInners, spared, sole, simplifyOne, simplifyEach, remove-redundant-negations, simplify-union-neg-intersection}
-use Rattle.rules.proofs.Storing.{Grown, grown-none, grown-both, node-stays, store-keeps}
+use Rattle.laws.proofs.Storing.{Grown, grown-none, grown-both, node-stays, store-keeps}
 use Rattle.lang_ty.specs.declared.arena.Pass.{Pass}
 use Rattle.lang_ty.specs.Nodes.{Arena, Stands, Is, Count, Member}
 use Rattle.members.specs.declared.lists.Members.{Members}
@@ -27,9 +27,10 @@ use Rattle.members.specs.declared.lists.Grown.{Grown as GrownBy}
 use Rattle.members.specs.declared.lists.Grown.the-variants.{On as OnG, Refused as RefusedG}
 use Rattle.members.specs.Lists.{Taken, Makes, Tests, Runs, Refuses, Gathered, KeepsIf, Soles, Grows, Adds, AnswersFlow, AnswersPart, AnswersGrown, anyOfKind, ofKind, sift, firstOf}
 use Rattle.simplify.specs.Intersections.{Beside, negated, Spares, takes, takesAny, Simplifies, SimplifiesInto, simplifyAll}
-use Rattle.rules.proofs.Filtering.{kept, filter-take, filter-length, filter-under, under-at, under-both, under-most}
+use Rattle.laws.proofs.Filtering.{kept, filter-take, filter-length, filter-under, under-at, under-both, under-most}
 use Rattle.members.proofs.Gathered.{few-at, few-below, gathered-none, gathered-few, gathered-list, kept-only, refuses, wraps-union}
 use Rattle.members.proofs.Negated.{under-members, bind-none, bind-more}
+use Rattle.cells.specs.Placed.{Under}
 
 -- a node's members are below it
 members-below : {w : List ℕ} {q : Pass} {ns : List Node} {x : ℕ} → Arena w q ns → x < length ns → Under x (membersAt ns x)

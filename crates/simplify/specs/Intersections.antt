@@ -8,7 +8,8 @@ use Rattle.rules.specs.Ceilings.{mostMembers}
 use Rattle.rules.specs.Types.{State, Run, nodeAt}
 use Rattle.rules.specs.Types as rules
 use Rattle.rules.specs.Plain.{any, all, filter, both}
-use Rattle.rules.specs.Members.{innerOf, negatedInners, isPositive, isConcrete, are-output-types-disjoint, is-output-subtype-or-equal, spared, simplifyOne, simplifyEach, takesSome}
+use Rattle.rules.specs.Members.{innerOf, negatedInners, isPositive, isConcrete, are-output-types-disjoint, is-output-subtype-or-equal, spared}
+use Rattle.rules.specs.Members.{simplifyOne, simplifyEach, takesSome}
 use Rattle.lang_ty.specs.declared.arena.Pass.{Pass}
 use Rattle.lang_ty.specs.Nodes.{Arena, Stands}
 use Rattle.members.specs.declared.lists.Members.{Members}

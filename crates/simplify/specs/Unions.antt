@@ -10,7 +10,7 @@ use Rattle.rules.specs.Ceilings.{mostMembers}
 use Rattle.rules.specs.Plain.{any, all, filter, contains, both}
 use Rattle.rules.specs.Table.{Attr, fieldKeys}
 use Rattle.rules.specs.Types.{Node, AttrSet, nodeAt, asAttr}
-use Rattle.rules.specs.Members.{innerOf, negatedInners, isPositive, cancelled, sameDyn, subsumesNode, takenByNode, left}
+use Rattle.rules.specs.Members.{innerOf, negatedInners, isPositive, cancelled, noDynOrSame, subsumesNode, takenByNode, left}
 use Rattle.lang_ty.specs.declared.arena.Pass.{Pass}
 use Rattle.lang_ty.specs.Nodes.{Arena}
 use Rattle.lang_ty.specs.Sets.{SetAt}
@@ -43,11 +43,12 @@ pub record FieldsCover (w : List ℕ) (a b : ℕ) (r : Bool) : Type 0 where
 
 -- the set at a has no dyn, or that of the one at b
 pub record DynCovers (w : List ℕ) (a b : ℕ) (r : Bool) : Type 0 where
-  pub is : {t u : Attr} → SetAt w a t → SetAt w b u → r ≡ sameDyn (t .dyn) (u .dyn)
+  pub is : {t u : Attr} → SetAt w a t → SetAt w b u → r ≡ noDynOrSame (t .dyn) (u .dyn)
 
 -- node x, a set, takes up node y
 pub record Subsumes (w : List ℕ) (x y : ℕ) (r : Bool) : Type 0 where
-  pub is : {q : Pass} {ns : List Node} {t : Attr} → Arena w q ns → x < length ns → y < length ns → nodeAt ns x ≡ AttrSet t → r ≡ subsumesNode t (asAttr (nodeAt ns y))
+  pub is : {q : Pass} {ns : List Node} {t : Attr} → Arena w q ns → x < length ns → y < length ns → nodeAt ns x ≡ AttrSet t
+      → r ≡ subsumesNode t (asAttr (nodeAt ns y))
 
 -- of the 128 cells gone, those at the places ps are marked, and no others
 pub record Marked (gone ps : List ℕ) : Type 0 where

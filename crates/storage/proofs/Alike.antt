@@ -1,16 +1,17 @@
 -- Entries in a slice that is alike from a place on. Assumes nothing.
 use mathlib.Core.Path.{_≡_, sym, ap, _∙_, subst}
-use Prim.Native.Nat.{ℕ, suc, _+_, _≤_, _<_}
+use Prim.Native.Nat.{ℕ, _+_, _≤_}
 use native.Mathlib.Omega.{arith}
 use mathlib.Core.List.{List}
 use lib.ListN.{length}
-use Rattle.cells.specs.Part.{cell, Holds, Under}
+use Rattle.cells.specs.Part.{cell}
 use Rattle.cells.proofs.Parts.{run-ext}
 use Rattle.layout.specs.Layout.{rowsAt}
 use Rattle.rules.specs.Table.{Entry, var, prim, tyvar, list, fn, set, neg, named, inter, union, frozen, kids}
-use Rattle.rules.specs.Run.{Reader}
+use Rattle.rules.specs.Canonicalizer.{Reader}
 use Rattle.storage.specs.declared.given.Canon.{Canon}
 use Rattle.storage.specs.Passes.{ListAt, RestAt, EntryAt, Reads}
+use Rattle.cells.specs.Placed.{Holds, Under}
 
 pub record Alike (b : ℕ) (w w′ : List ℕ) : Type 0 where
   pub is : (k : ℕ) → b ≤ k → cell w′ k ≡ cell w k

@@ -9,14 +9,14 @@ use lib.ListN.{length, getD, drop, drop-of-length-le}
 use lib.Seq.{drop-cons}
 use lib.Dec.{eqb}
 use borrow.Author.Tests.{eq-eqb, ne-eqb, eqb-true}
-use Rattle.cells.specs.Part.{cell, if, Under}
+use Rattle.cells.specs.Part.{cell, if}
 use Rattle.cells.specs.Sum.{Sum}
 use Rattle.cells.proofs.Holding.{holds-at}
 use Rattle.rules.specs.Plain.{any}
 use Rattle.rules.specs.Table.{var, prim, tyvar, list, fn, set, neg, named, inter, union, frozen, entryKind, kids}
 use Rattle.rules.specs.Table as rules
 use Rattle.rules.specs.Types.{Run, flip}
-use Rattle.rules.specs.Run.{Reader, isVariable, isNamed, isPrim, isAtom, negated, namedBound}
+use Rattle.rules.specs.Canonicalizer.{Reader, isVariable, isNamed, isPrim, isAtom, negated, namedBound}
 use Rattle.rules.specs.declared.Polarity.{Polarity}
 use Rattle.lang_ty.specs.declared.arena.Found.{Found}
 use Rattle.lang_ty.specs.declared.arena.Found.the-variants.{At, Nowhere}
@@ -25,7 +25,8 @@ use Rattle.storage.specs.declared.entries.Entry.{Entry}
 use Rattle.storage.specs.declared.entries.Entry.the-variants.{Variable, Primitive, TyVar, List as ListOf, Lambda, AttrSet, Neg, Named, Inter, Union, Frozen}
 use Rattle.storage.specs.Passes.{ListAt, EntryAt, Reads}
 use Rattle.storage.specs.Entries.{Row, KindAt, IsVar, VariableIs, ReadAs, entryOfTwo, EntryOfTwo, EntryRead, IsAtom, Uppers, NamedIs, FindsNamed, NamedBound, Turned}
-use Rattle.rules.proofs.Filtering.{under-at}
+use Rattle.laws.proofs.Filtering.{under-at}
+use Rattle.cells.specs.Placed.{Under}
 
 pub row-is : {table : List ℕ} {c : Canon} {id p r : ℕ} → p ≡ c .base + id → r ≡ cell table p → Row table c id r
 row-is {table} e f = record { is = f ∙ ap (cell table) e }

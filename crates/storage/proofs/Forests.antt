@@ -15,9 +15,9 @@ use Rattle.cells.specs.Part.{cell, part, run, if}
 use Rattle.cells.proofs.Parts.{run-ext, run-next, run-none, run-whole}
 use Rattle.cells.proofs.Holding.{holds-from}
 use Rattle.rules.specs.Plain.{flag, both}
-use Rattle.rules.specs.Table.{joinClasses, joinPair, joinPairs, repIn, upward}
-use Rattle.rules.proofs.Joining.{upward-length}
-use Rattle.storage.specs.Equivs.{Rep, Inside, Stays, roots, Forest, Finds, Unites, Alone, Settles, pairsIn, Behind, UnitesAll, Represents}
+use Rattle.rules.specs.Table.{Pair, joinClasses, joinPair, joinPairs, repIn, upward}
+use Rattle.laws.proofs.Joining.{upward-length}
+use Rattle.storage.specs.Equivs.{pairAt, Rep, Inside, Stays, roots, Forest, Finds, Unites, Alone, Settles, pairsIn, Behind, UnitesAll, Represents}
 
 -- `rep`
 module _ {reps : List ℕ} {count id : ℕ} where
@@ -324,14 +324,14 @@ module _ (reps : List ℕ) (a b : ℕ) where
   abbrev pairBy : Bool → Bool → List ℕ
   pairBy t u = if (both t (λ _. u)) (λ _. joinClasses reps (repIn reps a) (repIn reps b)) (λ _. reps)
 
-  pair-in : a < length reps → b < length reps → joinPair reps (a ∷ b ∷ []) ≡ joinClasses reps (cell reps a) (cell reps b)
+  pair-in : a < length reps → b < length reps → joinPair reps (record { first = a; second = b }) ≡ joinClasses reps (cell reps a) (cell reps b)
   pair-in la lb =
       ap₂ pairBy (lt-ltb a (length reps) la) (lt-ltb b (length reps) lb) ∙ ap₂ (joinClasses reps) (getD-in reps a a 0 la) (getD-in reps b b 0 lb)
 
-  pair-first : length reps ≤ a → joinPair reps (a ∷ b ∷ []) ≡ reps
+  pair-first : length reps ≤ a → joinPair reps (record { first = a; second = b }) ≡ reps
   pair-first le = ap (λ (t : Bool). pairBy t (ltb b (length reps))) (le-ltb a (length reps) le)
 
-  pair-second : a < length reps → length reps ≤ b → joinPair reps (a ∷ b ∷ []) ≡ reps
+  pair-second : a < length reps → length reps ≤ b → joinPair reps (record { first = a; second = b }) ≡ reps
   pair-second lt le = ap₂ pairBy (lt-ltb a (length reps) lt) (le-ltb b (length reps) le)
 
 module _ {parent : List ℕ} {count a b : ℕ} where
@@ -361,7 +361,7 @@ module _ {parent : List ℕ} {count a b : ℕ} where
             let g = fa .is f la in
             let h = fb .is (g .forest) lb in
             let k = h .forest in
-            subst (λ (l : List ℕ). Forest l count (joinPair reps (a ∷ b ∷ []))) (sym (put ∙ ap₂ (set p₂) (g .is) (h .is)))
+            subst (λ (l : List ℕ). Forest l count (joinPair reps (record { first = a; second = b }))) (sym (put ∙ ap₂ (set p₂) (g .is) (h .is)))
             (subst (λ (rs : List ℕ). Forest (set p₂ (cell reps a) (cell reps b)) count rs)
             (sym (pair-in reps a b (omega (arith, k .whole)) (omega (arith, k .whole))))
             (joined (cell reps a) (cell reps b) k (k .known a la) (k .known b lb) (k .root a la) (k .root b lb)));
@@ -480,9 +480,6 @@ module _ {parent₀ : List ℕ} {count : ℕ} where
         }
 
 -- `union_pairs` at pair i
-abbrev pub pairAt : List ℕ → ℕ → List ℕ
-pairAt table i = cell table (cell table i + 1) ∷ cell table (cell table i + 2) ∷ []
-
 pub record United (table₀ : List ℕ) (count first pairs : ℕ) (table reps : List ℕ) (i : ℕ) : Type 0 where
   pub reached : List ℕ
   pub forest : Forest table count reached
@@ -499,7 +496,7 @@ pair-kept {a} {b} {count} {first} s h i lt =
     let begin : cell b (first + i) ≡ cell a (first + i) = s .kept (first + i) (omega (arith, h .places)) in
     let word : (k : ℕ) → cell b (cell b (first + i) + k) ≡ cell a (cell a (first + i) + k) =
     λ k. ap (λ (m : ℕ). cell b (m + k)) begin ∙ s .kept (cell a (first + i) + k) (omega (arith, h .rows i lt)) in
-    ap₂ (λ (x y : ℕ). x ∷ y ∷ []) (word 1) (word 2)
+    ap₂ {C = Pair} (λ (x y : ℕ). record { first = x; second = y }) (word 1) (word 2)
 
 module _ {table₀ : List ℕ} {count first pairs : ℕ} where
   pub uniting-start : Uniting table₀ count first pairs table₀ 0
@@ -515,8 +512,8 @@ module _ {table₀ : List ℕ} {count first pairs : ℕ} where
         → y ≡ cell table p₂ → Unites table count x y table′ → Uniting table₀ count first pairs table′ (i + 1)
     uniting-more {table′} {x = x} {y = y} lt e f e₁ f₁ e₂ f₂ u =
         let z = f ∙ ap (cell table) e in
-        let pair : x ∷ y ∷ [] ≡ pairAt table (first + i) =
-        ap₂ (λ (k m : ℕ). k ∷ m ∷ []) (f₁ ∙ ap (cell table) (e₁ ∙ ap (λ (k : ℕ). k + 1) z)) (f₂ ∙ ap (cell table) (e₂ ∙ ap (λ (k : ℕ). k + 2) z)) in
+        let pair : _≡_ {A = Pair} (record { first = x; second = y }) (pairAt table (first + i)) =
+        ap₂ {C = Pair} (λ (k m : ℕ). record { first = k; second = m }) (f₁ ∙ ap (cell table) (e₁ ∙ ap (λ (k : ℕ). k + 1) z)) (f₂ ∙ ap (cell table) (e₂ ∙ ap (λ (k : ℕ). k + 2) z)) in
         record {
           few = omega arith;
           stays = λ h. let s = c .stays h in stays-both s (u .stays (s .inside));
@@ -525,7 +522,7 @@ module _ {table₀ : List ℕ} {count first pairs : ℕ} where
               let s = c .stays (record { is = g .inside }) in
               record {
                 reached = joinPair (v .reached) (pairAt table₀ (first + i));
-                forest = subst (λ (l : List ℕ). Forest table′ count (joinPair (v .reached) l)) (pair ∙ pair-kept s b i lt) (u .is (v .forest));
+                forest = subst (λ (l : Pair). Forest table′ count (joinPair (v .reached) l)) (pair ∙ pair-kept s b i lt) (u .is (v .forest));
                 left = sym (ap (joinPairs (v .reached)) (run-next (pairAt table₀) first pairs i lt)) ∙ v .left;
               };
         }

@@ -7,13 +7,13 @@ use mathlib.Core.List.{List, [], _∷_}
 use lib.ListN.{length, length-append}
 use lib.Dec.{eqb}
 use borrow.Author.Tests.{eq-eqb, ne-eqb}
-use Rattle.cells.specs.Part.{cell, if, Under}
+use Rattle.cells.specs.Part.{cell, if}
 use Rattle.cells.specs.Sum.{Sum}
 use Rattle.layout.specs.Layout.{marksAt}
 use Rattle.rules.specs.Plain.{filter}
 use Rattle.rules.specs.Table.{var, kids}
 use Rattle.rules.specs.Table as rules
-use Rattle.rules.specs.Run.{Pass, Reader, Visit, variable, isVariable, isAtom, lowers, uppers, beginList, boundsOf, expansion, variableRule}
+use Rattle.rules.specs.Canonicalizer.{Pass, Reader, Visit, variable, isVariable, isAtom, lowers, uppers, beginList, boundsOf, expansion, variableRule}
 use Rattle.rules.specs.declared.Polarity.{Polarity}
 use Rattle.rules.specs.declared.Polarity.the-variants.{Positive, Negative}
 use Rattle.storage.specs.declared.given.Canon.{Canon}
@@ -24,11 +24,12 @@ use Rattle.storage.specs.Equivs.{Rep}
 use Rattle.storage.specs.Vars.{IsPreserved}
 use Rattle.storage.specs.Entries.{Row, Uppers}
 use Rattle.storage.specs.Helds.{HoldsBounds, BeginsList, concretes, ownRule, OwnList, OwnBounds}
-use Rattle.rules.proofs.Filtering.{filter-length, filter-under}
-use Rattle.rules.proofs.Rooting.{under-front, under-back}
+use Rattle.laws.proofs.Filtering.{filter-length, filter-under}
+use Rattle.laws.proofs.Rooting.{under-front, under-back}
 use Rattle.storage.proofs.Sifted.{filter-all}
 use Rattle.storage.proofs.EntryReads.{variable-at, entry-at-row, behind}
 use Rattle.storage.proofs.HeldIds.{held-list, held-none}
+use Rattle.cells.specs.Placed.{Under}
 
 -- the list that a fallback begins
 module _ {table : List ℕ} {c : Canon} {p : Pass} {t : Reader} {id x y : ℕ} (k : Knows table c p t) (lt : id < c .count) where

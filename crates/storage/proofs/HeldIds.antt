@@ -10,7 +10,7 @@ use lib.Seq.{getD-set-same, getD-set-other, take-all, take-suc, length-take-le, 
 use lib.Dec.{eqb}
 use denote.Enum.Declared.{tagOf}
 use types.Run.{OneOf, miss}
-use Rattle.cells.specs.Part.{cell, Under}
+use Rattle.cells.specs.Part.{cell}
 use Rattle.cells.specs.Sum.{Sum}
 use Rattle.cells.proofs.Parts.{run-ext}
 use Rattle.cells.proofs.Holding.{holds-none, holds-place, holds-cons, holds-both}
@@ -18,9 +18,9 @@ use Rattle.rules.specs.Plain.{filter}
 use Rattle.rules.specs.Table.{Field, Attr, fieldTypes, dynIds, attrKids}
 use Rattle.rules.specs.Table as rules
 use Rattle.rules.specs.Types.{flip}
-use Rattle.rules.specs.Run.{Pass, Reader}
+use Rattle.rules.specs.Canonicalizer.{Pass, Reader}
 use Rattle.rules.specs.declared.Polarity.{Polarity}
-use Rattle.rules.proofs.Rows.{attr-words-length, few-dyns}
+use Rattle.laws.proofs.Rows.{attr-words-length, few-dyns}
 use Rattle.lang_ty.specs.Sets.{SetAt, Fields, FieldType, Dyns, DynType}
 use Rattle.storage.specs.declared.given.Canon.{Canon}
 use Rattle.storage.specs.declared.held.Which.{Which}
@@ -32,9 +32,10 @@ use Rattle.storage.specs.Equivs.{Rep}
 use Rattle.storage.specs.Entries.{IsVar, IsAtom, ReadAs}
 use Rattle.storage.specs.Helds.{HeldList, only, HoldsIf, wanted, Wanted, HoldsBounds, heldKids, SetChild, HoldsFields, HoldsOne, HoldsTwo, HoldsChildren, firstPolarity, FirstPolarity}
 use Rattle.storage.proofs.entries.Entry.{the-type}
-use Rattle.rules.proofs.Filtering.{filter-length, under-at}
+use Rattle.laws.proofs.Filtering.{filter-length, under-at}
 use Rattle.storage.proofs.Sifted.{filter-more}
 use Rattle.storage.proofs.EntryReads.{list-item}
+use Rattle.cells.specs.Placed.{Under}
 
 pub held-list : {work xs ys : List ℕ} {h n : ℕ} → xs ≡ ys → HeldList work h n xs → HeldList work h n ys
 held-list {work} {h = h} {n} e g = subst (λ (l : List ℕ). HeldList work h n l) e g

@@ -9,16 +9,17 @@ use lib.ListN.{length, getD, drop, set, length-set, drop-of-length-le}
 use lib.Seq.{getD-set-same, getD-set-other, drop-cons}
 use lib.Dec.{eqb, ltb, leb}
 use borrow.Author.Tests.{eqb-true, eqb-false, lt-ltb, le-ltb, ltb-true, ltb-false, leb-true, leb-false}
-use Rattle.cells.specs.Part.{cell, if, Under}
+use Rattle.cells.specs.Part.{cell, if}
 use Rattle.cells.proofs.Holding.{holds-at}
 use Rattle.layout.specs.Layout.{heldAt, seenAt}
 use Rattle.rules.specs.Ceilings.{mostEntries}
 use Rattle.rules.specs.Plain.{contains, addNew, flag}
 use Rattle.rules.specs.Members.{addAll}
 use Rattle.storage.specs.Helds.{HeldList, only, HoldsIf, Unseen, FirstOfEach, HoldsFirst, Forgets, Deduplicates}
-use Rattle.rules.proofs.Filtering.{under-at}
+use Rattle.laws.proofs.Filtering.{under-at}
 use Rattle.storage.proofs.Sifted.{new-length, adds-under, new-itself, new-other}
 use Rattle.storage.proofs.HeldIds.{held-list, held-none, held-ext}
+use Rattle.cells.specs.Placed.{Under}
 
 -- `forget` at id i
 pub record Forgetting (work₀ : List ℕ) (h n : ℕ) (work : List ℕ) (i : ℕ) : Type 0 where

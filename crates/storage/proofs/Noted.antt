@@ -12,8 +12,8 @@ use Rattle.cells.specs.Sum.{Sum}
 use Rattle.layout.specs.Layout.{bitsAt}
 use Rattle.rules.specs.Plain.{both}
 use Rattle.rules.specs.Types.{sign}
-use Rattle.rules.specs.Run.{addBit, tick}
-use Rattle.rules.specs.Run as rules
+use Rattle.rules.specs.Canonicalizer.{addBit, tick}
+use Rattle.rules.specs.Canonicalizer as rules
 use Rattle.rules.specs.declared.Polarity.{Polarity}
 use Rattle.rules.specs.declared.Polarity.the-variants.{Positive, Negative}
 use Rattle.lang_ty.specs.declared.arena.Pass.{Pass}

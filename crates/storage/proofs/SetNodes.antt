@@ -10,22 +10,23 @@ use lib.ListN.{length, getD, set, length-set, length-append, length-map}
 use lib.Seq.{getD-set-same, getD-set-other}
 use lib.Dec.{eqb}
 use borrow.Author.Tests.{eqb-true, eqb-false}
-use Rattle.cells.specs.Part.{cell, part, Holds, Under}
+use Rattle.cells.specs.Part.{cell, part}
 use Rattle.cells.specs.Sum.{Sum}
 use Rattle.cells.proofs.Holding.{holds-none, holds-place, holds-head, holds-tail, holds-cons, holds-right, holds-both, holds-at, holds-from}
 use Rattle.layout.specs.Layout.{arenaLength}
 use Rattle.rules.specs.Ceilings.{mostNames}
-use Rattle.rules.specs.Plain.{Maybe, none, some}
 use Rattle.rules.specs.Table.{Field, Attr, fieldKeys, fieldTypes, dynIds, attrKids}
 use Rattle.rules.specs.Types.{fieldWords, dynWords, attrWords, AttrSet}
-use Rattle.rules.proofs.Keeping.{ascending-few}
-use Rattle.rules.proofs.Rows.{field-words-length, dyn-words-length, attr-words-length, few-dyns, set-count, set-fields, set-dyn, dyns-read, key-read}
+use Rattle.laws.proofs.Keeping.{ascending-few}
+use Rattle.laws.proofs.Rows.{field-words-length, dyn-words-length, attr-words-length, few-dyns, set-count, set-fields, set-dyn, dyns-read, key-read}
 use Rattle.lang_ty.specs.declared.arena.Pass.{Pass}
 use Rattle.lang_ty.specs.declared.arena.Given.{Given}
 use Rattle.lang_ty.specs.Nodes.{highest, Interned, Top, Written}
 use Rattle.lang_ty.specs.Sets.{Fields, Dyns, Optionals}
 use Rattle.lang_ty.proofs.Rows.{written-none, written-more, written-list, written-both, stored-row}
 use Rattle.storage.specs.Sets.{retypeFields, retypeDyn, retyped, PutsTypes, PutsDyn, StoresSet}
+use Rattle.cells.specs.Placed.{Holds, Under}
+use mathlib.Core.Option.{Option, none, some}
 
 -- `put_types` at field i
 pub record Putting (w₀ : List ℕ) (a n : ℕ) (held : List ℕ) (h : ℕ) (w : List ℕ) (i : ℕ) : Type 0 where
@@ -91,11 +92,11 @@ retype-length [] xs = refl
 retype-length (f ∷ fs) [] = ap suc (retype-length fs [])
 retype-length (f ∷ fs) (x ∷ xs) = ap suc (retype-length fs xs)
 
-retype-dyns : (d : Maybe ℕ) (x : ℕ) → length (dynIds (retypeDyn d x)) ≡ length (dynIds d)
+retype-dyns : (d : Option ℕ) (x : ℕ) → length (dynIds (retypeDyn d x)) ≡ length (dynIds d)
 retype-dyns none x = refl
 retype-dyns (some d) x = refl
 
-retype-kids : (fs : List Field) (d : Maybe ℕ) (xs : List ℕ) → length xs ≡ length fs + length (dynIds d)
+retype-kids : (fs : List Field) (d : Option ℕ) (xs : List ℕ) → length xs ≡ length fs + length (dynIds d)
     → fieldTypes (retypeFields fs xs) ++ dynIds (retypeDyn d (cell xs (length fs))) ≡ xs
 retype-kids [] none [] e = refl
 retype-kids [] none (x ∷ xs) e = absurd (omega arith)
@@ -117,7 +118,7 @@ fields-put {w} {p} (f ∷ fs) (x ∷ xs) le keys types =
     (fields-put fs xs (omega arith) (λ i lt. ap (cell w) (omega arith) ∙ keys (suc i) (omega arith)) (λ i lt. ap (cell w) (omega arith) ∙ types (suc i) (omega arith))))
 
 -- a dyn with this answer stands at p
-dyn-stands : {w : List ℕ} {p x : ℕ} (d : Maybe ℕ) → cell w p ≡ length (dynIds d) → (0 < length (dynIds d) → cell w (suc p) ≡ x)
+dyn-stands : {w : List ℕ} {p x : ℕ} (d : Option ℕ) → cell w p ≡ length (dynIds d) → (0 < length (dynIds d) → cell w (suc p) ≡ x)
     → Holds w p (dynWords (retypeDyn d x))
 dyn-stands {w} {p} none e f = holds-cons e (holds-none w (suc p))
 dyn-stands {w} {p} (some d) e f = holds-cons e (holds-cons (f (omega arith)) (holds-none w (suc (suc p))))

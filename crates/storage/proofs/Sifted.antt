@@ -7,11 +7,12 @@ use mathlib.Core.List.{List, [], _∷_, _++_}
 use lib.ListN.{length, getD, take, length-append}
 use lib.Dec.{eqb}
 use borrow.Author.Tests.{eq-eqb, ne-eqb}
-use Rattle.cells.specs.Part.{if, Under}
+use Rattle.cells.specs.Part.{if}
 use Rattle.rules.specs.Plain.{filter, contains, addNew}
 use Rattle.rules.specs.Members.{addAll}
-use Rattle.rules.proofs.Filtering.{kept, filter-take, under-both}
+use Rattle.laws.proofs.Filtering.{kept, filter-take, under-both}
 use Rattle.storage.specs.Helds.{only}
+use Rattle.cells.specs.Placed.{Under}
 
 kept-only : (b : Bool) (x : ℕ) → kept b x ≡ only b x
 kept-only true x = refl

@@ -11,11 +11,11 @@ use Rattle.cells.specs.Part.{cell, if}
 use Rattle.layout.specs.Layout.{preservedAt}
 use Rattle.rules.specs.Types.{State, Out, Run, bind, give, TyVar, store}
 use Rattle.rules.specs.Types as types
-use Rattle.rules.specs.Run.{compositeKind, composite, preserving}
-use Rattle.rules.specs.Run as rules
+use Rattle.rules.specs.Canonicalizer.{compositeKind, composite, preserving}
+use Rattle.rules.specs.Canonicalizer as rules
 use Rattle.rules.specs.declared.Polarity.{Polarity}
 use Rattle.rules.specs.declared.Polarity.the-variants.{Positive, Negative}
-use Rattle.rules.proofs.Storing.{store-keeps}
+use Rattle.laws.proofs.Storing.{store-keeps}
 use Rattle.lang_ty.specs.declared.arena.Pass.{Pass}
 use Rattle.lang_ty.specs.declared.arena.Given.{Given}
 use Rattle.lang_ty.specs.declared.arena.Given.the-variants.{Node, Refused}

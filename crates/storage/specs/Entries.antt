@@ -5,20 +5,22 @@ use Prim.Native.Nat.{ℕ, suc, _+_, _<_}
 use mathlib.Core.List.{List, _++_}
 use lib.ListN.{length}
 use lib.Dec.{eqb}
-use Rattle.cells.specs.Part.{cell, if, Under}
+use Rattle.cells.specs.Part.{cell, if}
 use Rattle.rules.specs.Table.{Attr, var, prim, tyvar, list, fn, set, neg, named, inter, union, frozen}
 use Rattle.rules.specs.Table as rules
 use Rattle.rules.specs.Types.{Run}
-use Rattle.rules.specs.Run.{Reader, isVariable, isAtom, namedBound}
-use Rattle.rules.specs.Run as runs
+use Rattle.rules.specs.Canonicalizer.{Reader, isVariable, isAtom, namedBound}
+use Rattle.rules.specs.Canonicalizer as runs
 use Rattle.rules.specs.declared.Polarity.{Polarity}
 use Rattle.lang_ty.specs.Sets.{SetAt}
 use Rattle.lang_ty.specs.declared.arena.Found.{Found}
 use Rattle.lang_ty.specs.declared.arena.Found.the-variants.{At, Nowhere}
 use Rattle.storage.specs.declared.given.Canon.{Canon}
 use Rattle.storage.specs.declared.entries.Entry.{Entry}
-use Rattle.storage.specs.declared.entries.Entry.the-variants.{Variable, Primitive, TyVar, List as ListOf, Lambda, AttrSet, Neg, Named, Inter, Union, Frozen}
+use Rattle.storage.specs.declared.entries.Entry.the-variants.{Variable, Primitive, TyVar, List as ListOf, Lambda, AttrSet, Neg, Named, Inter}
+use Rattle.storage.specs.declared.entries.Entry.the-variants.{Union, Frozen}
 use Rattle.storage.specs.Passes.{ListAt, BoundsAt, Reads}
+use Rattle.cells.specs.Placed.{Under}
 
 pub record Row (table : List ℕ) (c : Canon) (id r : ℕ) : Type 0 where
   pub is : r ≡ cell table (c .base + id)

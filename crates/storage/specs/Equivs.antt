@@ -1,12 +1,12 @@
 -- EquivDsu: what the functions of equiv.rt ensure.
 use mathlib.Core.Path.{_≡_}
 use Prim.Native.Nat.{ℕ, zero, suc, _+_, _≤_, _<_}
-use mathlib.Core.List.{List, [], _∷_}
+use mathlib.Core.List.{List}
 use lib.ListN.{length}
 use lib.Dec.{eqb}
 use Rattle.cells.specs.Part.{cell, part, run}
 use Rattle.rules.specs.Plain.{flag}
-use Rattle.rules.specs.Table.{upward, joinPair, joinPairs}
+use Rattle.rules.specs.Table.{Pair, upward, joinPair, joinPairs}
 use Rattle.storage.specs.Passes.{repOf}
 
 pub record Rep (reps : List ℕ) (count id r : ℕ) : Type 0 where
@@ -53,7 +53,7 @@ pub record Finds (parent : List ℕ) (count id : ℕ) (parent′ : List ℕ) (r 
 
 pub record Unites (parent : List ℕ) (count a b : ℕ) (parent′ : List ℕ) : Type 0 where
   pub stays : Inside parent count → Stays parent count parent′
-  pub is : {reps : List ℕ} → Forest parent count reps → Forest parent′ count (joinPair reps (a ∷ b ∷ []))
+  pub is : {reps : List ℕ} → Forest parent count reps → Forest parent′ count (joinPair reps (record { first = a; second = b }))
 
 -- each id is its own representative
 pub record Alone (parent : List ℕ) (count : ℕ) (parent′ : List ℕ) : Type 0 where
@@ -66,8 +66,11 @@ pub record Settles (parent : List ℕ) (count : ℕ) (parent′ : List ℕ) : Ty
   pub is : {reps : List ℕ} → Forest parent count reps → part parent′ 0 count ≡ reps
 
 -- pair i is the second and the third word of the row that begins where place first + i tells
-abbrev pub pairsIn : List ℕ → ℕ → ℕ → List (List ℕ)
-pairsIn table first n = run (λ (i : ℕ). cell table (cell table i + 1) ∷ cell table (cell table i + 2) ∷ []) first n
+abbrev pub pairAt : List ℕ → ℕ → Pair
+pairAt table i = record { first = cell table (cell table i + 1); second = cell table (cell table i + 2) }
+
+abbrev pub pairsIn : List ℕ → ℕ → ℕ → List Pair
+pairsIn table first n = run (pairAt table) first n
 
 -- the pairs lie behind the parents
 pub record Behind (table : List ℕ) (count first pairs : ℕ) : Type 0 where

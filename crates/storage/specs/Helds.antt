@@ -5,7 +5,7 @@ use Prim.Native.Nat.{ℕ, _+_, _≤_, _<_}
 use mathlib.Core.List.{List, [], _∷_, _++_}
 use lib.ListN.{length, getD, set as setAt}
 use lib.Dec.{eqb}
-use Rattle.cells.specs.Part.{cell, if, Holds, Under}
+use Rattle.cells.specs.Part.{cell, if}
 use Rattle.layout.specs.Layout.{heldAt, seenAt}
 use Rattle.rules.specs.Ceilings.{mostEntries}
 use Rattle.rules.specs.Plain.{filter, contains, flag}
@@ -13,8 +13,8 @@ use Rattle.rules.specs.Members.{addAll}
 use Rattle.rules.specs.Table.{Attr, var, prim, tyvar, list, fn, set, neg, named, inter, union, frozen, kids, attrKids}
 use Rattle.rules.specs.Table as rules
 use Rattle.rules.specs.Types.{Run, _>>=_, flip}
-use Rattle.rules.specs.Run.{Pass, Reader, Visit, variable, isVariable, isAtom, beginList, boundsOf, expansion, preserving, variableRule}
-use Rattle.rules.specs.Run as runs
+use Rattle.rules.specs.Canonicalizer.{Pass, Reader, Visit, variable, isVariable, isAtom, beginList, boundsOf, expansion, preserving, variableRule}
+use Rattle.rules.specs.Canonicalizer as runs
 use Rattle.rules.specs.declared.Polarity.{Polarity}
 use Rattle.lang_ty.specs.Sets.{SetAt}
 use Rattle.storage.specs.declared.given.Canon.{Canon}
@@ -25,6 +25,7 @@ use Rattle.storage.specs.declared.held.Own.the-variants.{Variable, Bound
 use Rattle.storage.specs.declared.entries.Entry.{Entry}
 use Rattle.storage.specs.Passes.{ListAt, BoundsAt, Knows}
 use Rattle.storage.specs.Entries.{ReadAs}
+use Rattle.cells.specs.Placed.{Holds, Under}
 
 -- n ids xs are held from h on
 pub record HeldList (work : List ℕ) (h n : ℕ) (xs : List ℕ) : Type 0 where

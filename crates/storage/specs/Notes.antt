@@ -8,8 +8,8 @@ use lib.Dec.{eqb, ltb}
 use Rattle.cells.specs.Part.{cell}
 use Rattle.layout.specs.Layout.{bitsAt}
 use Rattle.rules.specs.Plain.{both}
-use Rattle.rules.specs.Run.{addBit, isBoth}
-use Rattle.rules.specs.Run as rules
+use Rattle.rules.specs.Canonicalizer.{addBit, isBoth}
+use Rattle.rules.specs.Canonicalizer as rules
 use Rattle.rules.specs.declared.Polarity.{Polarity}
 use Rattle.lang_ty.specs.declared.arena.Pass.{Pass}
 use Rattle.storage.specs.declared.given.Canon.{Canon}

@@ -1,18 +1,19 @@
 -- How the table's slice stands for a pass and for a table's entries.
 use mathlib.Core.Path.{_≡_}
-use mathlib.Core.Bool.{Bool, not}
+use mathlib.Core.Bool.{not}
 use Prim.Native.Nat.{ℕ, suc, _+_, _≤_, _<_}
 use mathlib.Core.List.{List}
 use lib.ListN.{length}
 use lib.Dec.{eqb, ltb}
-use Rattle.cells.specs.Part.{cell, if, Holds, Under}
+use Rattle.cells.specs.Part.{cell, if}
 use Rattle.layout.specs.Layout.{marksAt, preservedAt, rowsAt}
 use Rattle.rules.specs.Ceilings.{mostEntries}
 use Rattle.rules.specs.Table.{Entry, var, prim, tyvar, list, fn, set, neg, named, inter, union, frozen, entryKind, kids}
-use Rattle.rules.specs.Run.{Reader}
-use Rattle.rules.specs.Run as rules
+use Rattle.rules.specs.Canonicalizer.{Reader}
+use Rattle.rules.specs.Canonicalizer as rules
 use Rattle.lang_ty.specs.Sets.{SetAt}
 use Rattle.storage.specs.declared.given.Canon.{Canon}
+use Rattle.cells.specs.Placed.{Holds, Under}
 
 -- a list in a row: its length stands at l, and its numbers behind that
 pub record ListAt (w : List ℕ) (l : ℕ) (xs : List ℕ) : Type 0 where

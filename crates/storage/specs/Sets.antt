@@ -3,22 +3,23 @@ use mathlib.Core.Path.{_≡_}
 use Prim.Native.Nat.{ℕ, _+_, _*_, _≤_, _<_}
 use mathlib.Core.List.{List, [], _∷_}
 use lib.ListN.{length, set}
-use Rattle.cells.specs.Part.{cell, Holds, Under}
-use Rattle.rules.specs.Plain.{Maybe, none, some}
+use Rattle.cells.specs.Part.{cell}
 use Rattle.rules.specs.Table.{Field, Attr, attrKids}
 use Rattle.rules.specs.Types.{State, AttrSet, store}
-use Rattle.rules.specs.Sound.{Orderly}
+use Rattle.laws.specs.Sound.{Orderly}
 use Rattle.lang_ty.specs.declared.arena.Pass.{Pass}
 use Rattle.lang_ty.specs.declared.arena.Given.{Given}
 use Rattle.lang_ty.specs.Nodes.{Stands, Answers}
 use Rattle.lang_ty.specs.Sets.{SetAt}
+use Rattle.cells.specs.Placed.{Holds, Under}
+use mathlib.Core.Option.{Option, none, some}
 
 abbrev pub retypeFields : List Field → List ℕ → List Field
 retypeFields [] xs = []
 retypeFields (f ∷ fs) [] = f ∷ retypeFields fs []
 retypeFields (f ∷ fs) (x ∷ xs) = record { key = f .key; type = x } ∷ retypeFields fs xs
 
-abbrev pub retypeDyn : Maybe ℕ → ℕ → Maybe ℕ
+abbrev pub retypeDyn : Option ℕ → ℕ → Option ℕ
 retypeDyn none x = none
 retypeDyn (some d) x = some x
 

@@ -5,8 +5,8 @@ use Prim.Native.Nat.{ℕ, _<_}
 use mathlib.Core.List.{List}
 use lib.ListN.{length}
 use Rattle.rules.specs.Types.{State, Out, bind}
-use Rattle.rules.specs.Run.{variable, preserving, Reader}
-use Rattle.rules.specs.Run as rules
+use Rattle.rules.specs.Canonicalizer.{variable, preserving, Reader}
+use Rattle.rules.specs.Canonicalizer as rules
 use Rattle.rules.specs.declared.Polarity.{Polarity}
 use Rattle.lang_ty.specs.declared.arena.Pass.{Pass}
 use Rattle.lang_ty.specs.declared.arena.Given.{Given}

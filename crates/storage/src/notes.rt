@@ -9,7 +9,7 @@ use lang_ty::arena::Pass;
 use layout::WorkSlice;
 use rules::Polarity;
 ghost use mathlib.Core.Bool.{true};
-ghost use Rattle.rules.specs.Run.{tick};
+ghost use Rattle.rules.specs.Canonicalizer.{tick};
 ghost use Rattle.storage.specs.Notes.{AddsBit, IsBoth, Slot, Notes, PassWith, Exceeds, NoneBegun, Began, Begins};
 
 // PolarityBits: bit 0 positive, bit 1 negative.

@@ -10,7 +10,7 @@ use lang_ty::arena;
 use layout::TableSlice;
 use rules::Polarity;
 ghost use mathlib.Core.Path.{_≡_};
-ghost use Rattle.rules.specs.Run.{compositeKind};
+ghost use Rattle.rules.specs.Canonicalizer.{compositeKind};
 ghost use Rattle.storage.specs.Vars.{IsVariable, IsPreserved, Beside, Preserving, Expanded};
 
 // TyVar(rep)

@@ -12,7 +12,7 @@ use borrow.Author.Tests.{eq-eqb, ne-eqb, eqb-true}
 use Rattle.cells.specs.Part.{run, cell, if}
 use Rattle.cells.proofs.Parts.{run-at, run-length, run-snoc, run-ext}
 use Rattle.rules.specs.Plain.{before}
-use Rattle.rules.specs.Table.{entryOf, inOrder, addRow, rowWeight, add, over, afterLast, ascends, frozenEntry, Reading, Taken, taken, fault, admit, begun, lines, asSet, keysAscend}
+use Rattle.rules.specs.Table.{entryOf, inOrder, addRow, rowWeight, add, over, afterLast, ascends, frozenEntry, Reading, Admission, admitted, fault, admit, begun, lines, asSet, keysAscend}
 use Rattle.rules.specs.Table as rules
 use Rattle.layout.specs.Layout.{rowsAt}
 use Rattle.text.specs.Reads.{span, Above}
@@ -74,17 +74,17 @@ module _ (p : Progress) (w w′ : List ℕ) (f : Fine p) (l : Layout p w) (a : A
       (ap bare (run-same (1 + p .table .names + p .table .entries + p .table .pairs + p .table .marks) (p .table .roots) (omega arith) (omega arith)))
 
   pub reading-same : readingOf p w ≡ readingOf p w′
-  reading-same = ap (λ (t : rules.Table). record { stage = p .stage; ids = p .ids; table = t }) table-same
+  reading-same = ap (λ (t : rules.Sections). record { stage = p .stage; ids = p .ids; table = t }) table-same
 
 -- the ceilings, by counts
-abbrev lengthsOf : rules.Table → Table
+abbrev lengthsOf : rules.Sections → Table
 lengthsOf t = record { names = length (t .names); entries = length (t .entries); pairs = length (t .pairs); marks = length (t .marks); roots = length (t .roots) }
 
-map-if : (f : rules.Table → Table) (b : Bool) (x y : Unit {0} → rules.Table) (x′ y′ : Unit {0} → Table) → f (x tt) ≡ x′ tt → f (y tt) ≡ y′ tt → f (if b x y) ≡ if b x′ y′
+map-if : (f : rules.Sections → Table) (b : Bool) (x y : Unit {0} → rules.Sections) (x′ y′ : Unit {0} → Table) → f (x tt) ≡ x′ tt → f (y tt) ≡ y′ tt → f (if b x y) ≡ if b x′ y′
 map-if f true x y x′ y′ p q = p
 map-if f false x y x′ y′ p q = q
 
-lengths-add : (t : rules.Table) (s : ℕ) (row : List ℕ) → lengthsOf (addRow t s row) ≡ countRow (lengthsOf t) s
+lengths-add : (t : rules.Sections) (s : ℕ) (row : List ℕ) → lengthsOf (addRow t s row) ≡ countRow (lengthsOf t) s
 lengths-add t s row =
     map-if lengthsOf (eqb s 0) _ _ _ _ refl
     (map-if lengthsOf (eqb s 1) _ _ _ _ (λ i. record { names = length-append (t .names) (drop 1 row ∷ []) i; entries = length (t .entries); pairs = length (t .pairs); marks = length (t .marks); roots = length (t .roots) })
@@ -156,11 +156,11 @@ module _ (p : Progress) (w : List ℕ) (to : ℕ) (f : Fine p) (l : Layout p w) 
       names-by (p .table .names) refl (omega arith))
 
 -- what the code says of a row, as the rules say it; z is the reading with the row
-abbrev pub said : Verdict → Reading → Taken
-said (TakenV q) z = taken z
+abbrev pub said : Verdict → Reading → Admission
+said (TakenV q) z = admitted z
 said (Fault k) z = fault k
 
-push : (a b c d : Bool) (n : Progress) (z : Reading) → said (if a (λ _. if b (λ _. Fault 2) (λ _. if c (λ _. if d (λ _. Fault 5) (λ _. TakenV n)) (λ _. Fault 4))) (λ _. Fault 1)) z ≡ if a (λ _. if b (λ _. fault 2) (λ _. if c (λ _. if d (λ _. fault 5) (λ _. taken z)) (λ _. fault 4))) (λ _. fault 1)
+push : (a b c d : Bool) (n : Progress) (z : Reading) → said (if a (λ _. if b (λ _. Fault 2) (λ _. if c (λ _. if d (λ _. Fault 5) (λ _. TakenV n)) (λ _. Fault 4))) (λ _. Fault 1)) z ≡ if a (λ _. if b (λ _. fault 2) (λ _. if c (λ _. if d (λ _. fault 5) (λ _. admitted z)) (λ _. fault 4))) (λ _. fault 1)
 push false b c d n z = refl
 push true true c d n z = refl
 push true false false d n z = refl
@@ -175,7 +175,7 @@ passed true false false d q n e = absurd (let z : _≡_ {A = ℕ} 0 1 = cc in om
 passed true false true true q n e = absurd (let z : _≡_ {A = ℕ} 0 1 = cc in omega arith)
 passed true false true false q n e = (refl, cc)
 
-if-when : (a : Bool) (x y : Taken) (z : Taken) → (a ≡ true → x ≡ y) → if a (λ _. x) (λ _. z) ≡ if a (λ _. y) (λ _. z)
+if-when : (a : Bool) (x y : Admission) (z : Admission) → (a ≡ true → x ≡ y) → if a (λ _. x) (λ _. z) ≡ if a (λ _. y) (λ _. z)
 if-when true x y z h = h refl
 if-when false x y z h = refl
 
@@ -184,4 +184,4 @@ module _ (p : Progress) (w : List ℕ) (to : ℕ) (f : Fine p) (l : Layout p w) 
   admitted-by sec =
       push (inOrder (p .stage) sec) (overBy (countRow (p .table) sec) (p .ids + rowWeight sec (span w (p .top) to)) sec ((to - p .top) - 1)) (ascendsBy p w to sec) (eqb (cell (span w (p .top) to) 0) frozenEntry) (advanceBy p sec (rowWeight sec (span w (p .top) to)) to) (add (readingOf p w) sec (span w (p .top) to))
       ∙ if-when (inOrder (p .stage) sec) _ _ (fault 1)
-      (λ h. ap₂ {C = Taken} (λ (b c : Bool). if b (λ _. fault 2) (λ _. if c (λ _. if (eqb (cell (span w (p .top) to) 0) frozenEntry) (λ _. fault 5) (λ _. taken (add (readingOf p w) sec (span w (p .top) to)))) (λ _. fault 4))) (over-same p w to sec) (ascends-same p w to f l sec h))
+      (λ h. ap₂ {C = Admission} (λ (b c : Bool). if b (λ _. fault 2) (λ _. if c (λ _. if (eqb (cell (span w (p .top) to) 0) frozenEntry) (λ _. fault 5) (λ _. admitted (add (readingOf p w) sec (span w (p .top) to)))) (λ _. fault 4))) (over-same p w to sec) (ascends-same p w to f l sec h))

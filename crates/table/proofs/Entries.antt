@@ -10,11 +10,12 @@ use lib.Dec.{eqb}
 use borrow.Author.Tests.{eq-eqb, ne-eqb}
 use Rattle.cells.specs.Part.{cell, part, if}
 use Rattle.cells.proofs.Parts.{run-length}
-use Rattle.rules.specs.Plain.{none, some, both, ascending}
+use Rattle.rules.specs.Plain.{both, ascending}
 use Rattle.rules.specs.Table.{Entry, var, prim, tyvar, list, fn, set, neg, named, inter, union, frozen, attrAt, entryOf, fieldsAt, dynIds, dynPlace, openPlace, fieldTypes, fieldKeys, asSet, keysAscend, weight}
 use Rattle.text.specs.Reads.{span}
 use Rattle.table.specs.declared.rows.Places.{Places}
 use Rattle.table.specs.Rows.{At, every, Ascend, Present, PlacedIn, Placed, PlainWeight, Weight, KeysAscend}
+use mathlib.Core.Option.{none, some}
 
 -- the lists of a row, cell by cell
 pub keys-every : (row : List ℕ) (a n : ℕ) → fieldKeys (fieldsAt row a n) ≡ every row 2 a n

@@ -18,7 +18,6 @@ use Rattle.rules.specs.Table as rules
 use Rattle.layout.specs.Layout.{rowsAt, tableWords, tableLength}
 use Rattle.text.specs.Reads.{span}
 use Rattle.text.proofs.Spans.{span-before}
-use Rattle.table.specs.declared.Table.{Table}
 use Rattle.table.specs.declared.judging.Progress.{Progress}
 use Rattle.table.specs.Rows.{mostLines, beginAt, Few, countRow, Fine, advanceBy, rowAt, bare, tableAt, budgetBy, Layout}
 
@@ -31,7 +30,7 @@ pub begun-in-order : (stage sec : ℕ) → inOrder stage (suc sec) ≡ true → 
 begun-in-order stage sec h = ⊎-elim (λ q. absurd (let e = q .1 in let z : ⊥ = omega arith in z)) (λ q. q) (in-order stage (suc sec) h)
 
 -- equal parts make an equal table
-pub built : {b b′ : ℕ} {n n′ e e′ p p′ m m′ r r′ : List (List ℕ)} → b ≡ b′ → n ≡ n′ → e ≡ e′ → p ≡ p′ → m ≡ m′ → r ≡ r′ → _≡_ {A = rules.Table} (record { budget = b; names = n; entries = e; pairs = p; marks = m; roots = r }) (record { budget = b′; names = n′; entries = e′; pairs = p′; marks = m′; roots = r′ })
+pub built : {b b′ : ℕ} {n n′ e e′ p p′ m m′ r r′ : List (List ℕ)} → b ≡ b′ → n ≡ n′ → e ≡ e′ → p ≡ p′ → m ≡ m′ → r ≡ r′ → _≡_ {A = rules.Sections} (record { budget = b; names = n; entries = e; pairs = p; marks = m; roots = r }) (record { budget = b′; names = n′; entries = e′; pairs = p′; marks = m′; roots = r′ })
 built x n e p m r = λ i. record { budget = x i; names = n i; entries = e i; pairs = p i; marks = m i; roots = r i }
 
 pub bare-snoc : (rs : List (List ℕ)) (r : List ℕ) → bare (rs ++ (r ∷ [])) ≡ bare rs ++ (drop 1 r ∷ [])

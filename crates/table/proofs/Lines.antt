@@ -12,15 +12,13 @@ use borrow.Author.Tests.{eq-eqb, ne-eqb}
 use Rattle.cells.specs.Part.{cell, if}
 use Rattle.layout.specs.Layout.{rowsAt, tableWords, tableLength}
 use Rattle.rules.specs.Ceilings.{mostText, mostIds}
-use Rattle.rules.specs.Plain.{Maybe}
 use Rattle.rules.specs.Text.{cut, pieces}
-use Rattle.rules.specs.Table.{kinds, sectionOf, inOrder, rowWeight, add, frozenEntry, Reading, nothing, Taken, taken, fault, admit, inForm, step, then, at, begun, lines}
+use Rattle.rules.specs.Table.{kinds, sectionOf, inOrder, rowWeight, add, frozenEntry, Reading, nothing, Admission, admitted, fault, admit, inForm, step, then, atLine, begun, lines}
 use Rattle.rules.specs.Table as rules
 use Rattle.text.specs.declared.Got.{Got}
 use Rattle.text.specs.declared.Got.the-variants.{Bad, To}
 use Rattle.text.specs.Reads.{span, Seek, FieldRoom, Ends, gotWords, Row}
 use Rattle.text.proofs.Spans.{span-none, span-next, span-whole}
-use Rattle.table.specs.declared.Table.{Table}
 use Rattle.table.specs.declared.judging.Progress.{Progress}
 use Rattle.table.specs.declared.Answer.the-variants.{Accepted, Refused}
 use Rattle.table.specs.declared.judging.Verdict.{Verdict}
@@ -28,6 +26,7 @@ use Rattle.table.specs.declared.judging.Verdict.the-variants.{Taken as T
 use Rattle.table.specs.Rows.{mostLines, beginAt, Few, countRow, overBy, ascendsBy, Fine, advanceBy, Admitted, Judged, tableFrom, readingOf, takenOf, Layout, Ready, Went, Goes, Apart, Lined, untouched, Unread, Begun, Lines}
 use Rattle.table.proofs.Growing.{grown, fine-grown, laid-grown}
 use Rattle.table.proofs.Admitting.{reading-same, layout-same, said, passed, admitted-by}
+use mathlib.Core.Option.{Option}
 
 -- what is written of a row stands behind the beginnings of rows
 row-apart : {text w w′ : List ℕ} {from to : ℕ} {p : Progress} {r : Got} → Ready text from to w p → Row kinds text from to (p .top) w w′ r → Apart w w′
@@ -52,7 +51,7 @@ module _ {text w w′ : List ℕ} {from to : ℕ} {p : Progress} {r : Got} (h : 
 step-is : (text w w′ : List ℕ) (from to : ℕ) (p : Progress) (r : Got) (t : ℕ) → Ready text from to w p → Row kinds text from to (p .top) w w′ r → r ≡ To t → admit (readingOf p w′) (sectionOf (cell (span w′ (p .top) t) 0)) (span w′ (p .top) t) ≡ step (readingOf p w) (span text from to)
 unfolding step
 step-is text w w′ from to p r t h x e =
-    ap₂ {C = Taken} (λ (q : Reading) (m : Maybe (List ℕ)). inForm q m) (sym (reading-same p w w′ (h .fine) (h .layout) (x .wrote .above))) (ap (gotWords (p .top) w′) (sym e) ∙ x .wrote .is)
+    ap₂ {C = Admission} (λ (q : Reading) (m : Option (List ℕ)). inForm q m) (sym (reading-same p w w′ (h .fine) (h .layout) (x .wrote .above))) (ap (gotWords (p .top) w′) (sym e) ∙ x .wrote .is)
 
 bounds : (text w w′ : List ℕ) (from to : ℕ) (p : Progress) (r : Got) (t : ℕ) → Row kinds text from to (p .top) w w′ r → r ≡ To t → Ends (p .top) (to - from + 1) (To t)
 bounds text w w′ from to p r t x e = subst (Ends (p .top) (to - from + 1)) e (x .wrote .ends)
@@ -109,9 +108,9 @@ module _ {text w w′ : List ℕ} {from to : ℕ} {p : Progress} {r : Got} {t : 
         let there : w″ ≡ set w′ (rowsAt + (p .lines + 1)) t = put ∙ ap (λ (n : ℕ). set w′ (rowsAt + n) t) lines-too in
         record {
           is =
-              ap (λ (m : List ℕ). taken (readingOf q m)) there
-              ∙ ap (λ (n : Progress). taken (readingOf n (set w′ (rowsAt + (p .lines + 1)) t))) (how .1)
-              ∙ ap (λ (m : rules.Table). taken (record { stage = rules.stageAfter (sectionOf (cell (span w′ (p .top) t) 0)); ids = p .ids + rowWeight (sectionOf (cell (span w′ (p .top) t) 0)) (span w′ (p .top) t); table = m }))
+              ap (λ (m : List ℕ). admitted (readingOf q m)) there
+              ∙ ap (λ (n : Progress). admitted (readingOf n (set w′ (rowsAt + (p .lines + 1)) t))) (how .1)
+              ∙ ap (λ (m : rules.Sections). admitted (record { stage = rules.stageAfter (sectionOf (cell (span w′ (p .top) t) 0)); ids = p .ids + rowWeight (sectionOf (cell (span w′ (p .top) t) 0)) (span w′ (p .top) t); table = m }))
               (sym (grown p w′ t layout few-lines room (h .fine) (sectionOf (cell (span w′ (p .top) t) 0)) (how .0)))
               ∙ ap (λ (o : Verdict). said o (add (readingOf p w′) (sectionOf (cell (span w′ (p .top) t) 0)) (span w′ (p .top) t))) (sym g ∙ j .is)
               ∙ admitted-by p w′ t (h .fine) layout (sectionOf (cell (span w′ (p .top) t) 0))
@@ -138,9 +137,9 @@ cut-some P f sep got [] = f got []
 cut-some P f sep got (b ∷ bs) = cut-if P (got ∷ cut sep [] bs) (cut sep (got ++ (b ∷ [])) bs) (eqb b sep) (f got (cut sep [] bs)) (cut-some P f sep (got ++ (b ∷ [])) bs)
 
 -- a line with a text after it
-lines-next : (k : ℕ) (r : Reading) (l x : List ℕ) → lines k r (l ∷ pieces 10 x) ≡ then (at k (step r l)) (λ (q : Reading). lines (suc k) q (pieces 10 x))
+lines-next : (k : ℕ) (r : Reading) (l x : List ℕ) → lines k r (l ∷ pieces 10 x) ≡ then (atLine k (step r l)) (λ (q : Reading). lines (suc k) q (pieces 10 x))
 unfolding pieces
-lines-next k r l x = cut-some (λ (q : List (List ℕ)). lines k r (l ∷ q) ≡ then (at k (step r l)) (λ (z : Reading). lines (suc k) z q)) (λ p ps. refl) 10 [] x
+lines-next k r l x = cut-some (λ (q : List (List ℕ)). lines k r (l ∷ q) ≡ then (atLine k (step r l)) (λ (z : Reading). lines (suc k) z q)) (λ p ps. refl) 10 [] x
 
 -- the lines read so far stand as rows; with what is left they are the whole
 pub record Walking (text w₀ w : List ℕ) (from : ℕ) (p : Progress) : Type 0 where
@@ -205,9 +204,9 @@ module _ {text w₀ w : List ℕ} {from : ℕ} {p : Progress} (inv : Walking tex
         walk-apart : Apart w₀ w′
         walk-apart = record { same-length = d .apart .same-length ∙ inv .apart .same-length; kept = λ i b. d .apart .kept i b ∙ inv .apart .kept i b }
 
-        turn : (o : Taken) → takenOf v w′ ≡ o → then (at (p .lines + 1) o) (λ (q : Reading). lines (suc (p .lines + 1)) q (pieces 10 (span text (e + 1) (length text)))) ≡ lines 1 nothing (pieces 10 text)
+        turn : (o : Admission) → takenOf v w′ ≡ o → then (atLine (p .lines + 1) o) (λ (q : Reading). lines (suc (p .lines + 1)) q (pieces 10 (span text (e + 1) (length text)))) ≡ lines 1 nothing (pieces 10 text)
         turn o q =
-            ap (λ (z : Taken). then (at (p .lines + 1) z) (λ (q : Reading). lines (suc (p .lines + 1)) q (pieces 10 (span text (e + 1) (length text))))) (sym q ∙ d .is)
+            ap (λ (z : Admission). then (atLine (p .lines + 1) z) (λ (q : Reading). lines (suc (p .lines + 1)) q (pieces 10 (span text (e + 1) (length text))))) (sym q ∙ d .is)
             ∙ sym (ap (lines (p .lines + 1) (readingOf p w)) (k .here within) ∙ lines-next (p .lines + 1) (readingOf p w) (span text from e) (span text (e + 1) (length text)))
             ∙ inv .is
 
@@ -226,5 +225,5 @@ module _ {text w₀ w : List ℕ} {from : ℕ} {p : Progress} (inv : Walking tex
               apart = walk-apart;
               is =
                   ap (λ (n : ℕ). lines n (readingOf q w′) (pieces 10 (span text (e + 1) (length text)))) (ap (λ (n : ℕ). n + 1) (went .lines) ∙ add-one (p .lines + 1))
-                  ∙ turn (taken (readingOf q w′)) (ap (λ (o : Verdict). takenOf o w′) g);
+                  ∙ turn (admitted (readingOf q w′)) (ap (λ (o : Verdict). takenOf o w′) g);
             }

@@ -1,14 +1,18 @@
 -- Sections, counts, ceilings, and what is said of a row. Assumes nothing.
-use mathlib.Core.Path.{_≡_, refl, sym, ap, ap₂, _∙_}
+use mathlib.Core.Path.{_≡_, refl, sym, ap, ap₂, _∙_, subst}
 use mathlib.Core.Bool.{Bool, true, false}
-use Prim.Native.Nat.{ℕ, _+_, _-_, _≤_, _<_}
+use Prim.Native.Nat.{ℕ, zero, suc, _+_, _-_, _≤_, _<_}
 use native.Mathlib.Omega.{arith}
+use native.Mathlib.Nat.{not-suc-le-zero, eq-or-lt-of-le}
+use mathlib.Core.Logic.{⊎-elim}
 use mathlib.Core.List.{List}
+use lib.ListN.{List·getD-eq-default}
 use lib.Dec.{eqb, ltb, leb}
 use borrow.Author.Tests.{lt-ltb, le-ltb, eq-eqb, ne-eqb, ltb-false}
 use Rattle.cells.specs.Part.{cell, if}
 use Rattle.rules.specs.Plain.{before, both}
-use Rattle.rules.specs.Table.{sectionOf, rowWeight}
+use Rattle.rules.specs.Text.{Kind, noKind}
+use Rattle.rules.specs.Table.{kinds, sectionOf, rowWeight}
 use Rattle.text.specs.Reads.{span}
 use Rattle.table.specs.declared.Table.{Table}
 use Rattle.table.specs.declared.judging.Progress.{Progress}
@@ -16,18 +20,38 @@ use Rattle.table.specs.declared.judging.Verdict.{Verdict}
 use Rattle.table.specs.declared.judging.Verdict.the-variants.{Taken, Fault}
 use Rattle.table.specs.Rows.{Begin, At, Section, Before, Weight, KeysAscend, countRow, Counted, NamesOver, EntriesOver, RestOver, overBy, Over, InOrder, NameAscends, Ascends, RowWeight, Size, StageAfter, advanceBy, Advanced, judgeBy, Judged}
 
+-- what holds of each number below n
+abbrev Upto : (ℕ → Type 0) → ℕ → Type 0
+Upto P zero = Unit {0}
+Upto P (suc n) = Upto P n × P n
+
+upto : (P : ℕ → Type 0) (n k : ℕ) → Upto P n → k < n → P k
+upto P zero k h l = absurd (not-suc-le-zero l)
+upto P (suc n) k h l = ⊎-elim (λ (e : k ≡ n). subst P (sym e) (h .1)) (λ (m : k < n). upto P n k (h .0) m) (eq-or-lt-of-le (omega arith))
+
+-- the sections by the numbers of their kinds, as the code tells them
+abbrev sectionBy : ℕ → ℕ
+sectionBy k = if (ltb k 2) (λ _. k) (λ _. if (ltb k 13) (λ _. 2) (λ _. k - 10))
+
+section-by : (k : ℕ) → k < 16 → sectionBy k ≡ sectionOf k
+unfolding sectionOf
+section-by k l =
+    upto (λ (k : ℕ). sectionBy k ≡ sectionOf k) 16 k
+    ((((((((((((((((tt, refl), refl), refl), refl), refl), refl), refl), refl), refl), refl), refl), refl), refl), refl), refl), refl) l
+
 module _ {kind : ℕ} where
   pub section-low : kind < 2 → Section kind kind
-  unfolding sectionOf
-  section-low h = record { is = simp (lt-ltb kind 2 h) }
+  section-low h = record { is = simp (lt-ltb kind 2 h) at (section-by kind (omega arith)) }
 
   pub section-entry : 2 ≤ kind → kind < 13 → Section kind 2
-  unfolding sectionOf
-  section-entry g h = record { is = simp (le-ltb kind 2 g, lt-ltb kind 13 h) }
+  section-entry g h = record { is = simp (le-ltb kind 2 g, lt-ltb kind 13 h) at (section-by kind (omega arith)) }
 
-  pub section-late : 2 ≤ kind → 13 ≤ kind → Section kind (kind - 10)
+  pub section-late : 2 ≤ kind → 13 ≤ kind → kind < 16 → Section kind (kind - 10)
+  section-late g h l = record { is = simp (le-ltb kind 2 g, le-ltb kind 13 h) at (section-by kind l) }
+
+  pub section-none : 16 ≤ kind → Section kind 0
   unfolding sectionOf
-  section-late g h = record { is = simp (le-ltb kind 2 g, le-ltb kind 13 h) }
+  section-none h = record { is = sym (ap (λ (k : Kind). k .section) (List·getD-eq-default kinds noKind h)) }
 
 module _ {t : Table} {s : ℕ} where
   pub count-0 : s ≡ 0 → Counted t s t

@@ -11,7 +11,7 @@ use Rattle.cells.specs.Part.{run, cell}
 use Rattle.cells.proofs.Parts.{run-length}
 use Rattle.layout.specs.Layout.{rowsAt, tableWords, tableLength}
 use Rattle.rules.specs.Ceilings.{mostText}
-use Rattle.rules.specs.Table.{entryOf, inRange, Result, accepted, refused, then, known, inTable, tableOf}
+use Rattle.rules.specs.Table.{entryOf, inRange, Result, accepted, refused, then, known, inTable, sectionsOf}
 use Rattle.rules.specs.Table as rules
 use Rattle.table.specs.declared.Table.{Table}
 use Rattle.table.specs.declared.Answer.{Answer}
@@ -21,7 +21,7 @@ use Rattle.table.proofs.Admitting.{bare-length}
 use Rattle.table.proofs.Knowing.{entryTest, rootTest, rootRow}
 
 pub read-long : {text w : List ℕ} → mostText < length text → ReadInto text w w (Refused 2 0)
-unfolding tableOf
+unfolding sectionsOf
 read-long {text} h = record { read = record { is = simp (lt-ltb mostText (length text) h); laid = tt }; apart = record { same-length = refl; kept = λ k lt. refl } }
 
 pub started : {w w′ : List ℕ} → tableLength ≤ length w → w′ ≡ set w rowsAt tableWords → Started w w′
@@ -52,7 +52,7 @@ in-table t w =
     (λ _. unless (known (λ (row : List ℕ). ltb (cell row 0) (entries i)) (2 + names i + entries i + pairs i + marks i) (bare (run (rowAt w) (rootRow t) (t .roots)))) t w)
 
 module _ {w : List ℕ} {t : Table} {b : Answer} (x : EntriesKnown w t b) where
-  refused-by : (m : Result (Unit {0})) (z : Result rules.Table) {k l : ℕ} → refused k l ≡ unless m t w → refused k l ≡ then m (λ _. z)
+  refused-by : (m : Result (Unit {0})) (z : Result rules.Sections) {k l : ℕ} → refused k l ≡ unless m t w → refused k l ≡ then m (λ _. z)
   refused-by (accepted u) z q = absurd (let y : _≡_ {A = ℕ} 0 1 = cc in omega arith)
   refused-by (refused i j) z q = cc
 
@@ -65,7 +65,7 @@ module _ {w : List ℕ} {t : Table} {b : Answer} (x : EntriesKnown w t b) where
     kept = tt;
   }
 
-  accepted-by : (m : Result (Unit {0})) (y z : Result rules.Table) {v : rules.Table} → y ≡ z → accepted v ≡ unless m t w → y ≡ then m (λ _. z)
+  accepted-by : (m : Result (Unit {0})) (y z : Result rules.Sections) {v : rules.Sections} → y ≡ z → accepted v ≡ unless m t w → y ≡ then m (λ _. z)
   accepted-by (accepted u) y z p q = p
   accepted-by (refused i j) y z p q = absurd (let y : _≡_ {A = ℕ} 0 1 = cc in omega arith)
 
@@ -80,9 +80,9 @@ module _ {w : List ℕ} {t : Table} {b : Answer} (x : EntriesKnown w t b) where
   }
 
 module _ {text w w₁ w′ : List ℕ} {a : Answer} (short : length text ≤ mostText) (s : Started w w₁) (h : Lines text w₁ w′ a) where
-  whole : tableOf text ≡ then (outcome a w′) inTable
-  unfolding tableOf
-  whole = simp (le-ltb mostText (length text) short) (ap (λ (r : Result rules.Table). then r inTable) (sym (h .is)))
+  whole : sectionsOf text ≡ then (outcome a w′) inTable
+  unfolding sectionsOf
+  whole = simp (le-ltb mostText (length text) short) (ap (λ (r : Result rules.Sections). then r inTable) (sym (h .is)))
 
   apart : Apart w w′
   apart = record { same-length = h .apart .same-length ∙ s .apart .same-length; kept = λ k lt. h .apart .kept k lt ∙ s .apart .kept k lt }

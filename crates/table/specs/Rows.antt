@@ -9,7 +9,9 @@ use Rattle.cells.specs.Part.{run, cell, part, if}
 use Rattle.rules.specs.Plain.{both, ascending, before}
 use Rattle.rules.specs.Ceilings.{mostText, mostNames, longestName, mostEntries, mostIds, mostPairs, mostMarks, mostRoots}
 use Rattle.rules.specs.Text.{lineFeed, pieces}
-use Rattle.rules.specs.Table.{entryOf, sectionOf, dynPlace, openPlace, kids, asSet, keysAscend, weight, allBelow, inRange, inOrder, rowWeight, stageAfter, frozenEntry, Reading, nothing, Taken, taken, fault, step, Result, accepted, refused, then, lines, known, inTable, tableOf}
+use Rattle.rules.specs.Table.{entryOf, sectionOf, dynPlace, openPlace, kids, asSet, keysAscend, weight, allBelow, inRange, inOrder, rowWeight}
+use Rattle.rules.specs.Table.{stageAfter, frozenEntry, Reading, nothing, Admission, admitted, fault, step, Result, accepted, refused, then, lines}
+use Rattle.rules.specs.Table.{known, inTable, sectionsOf}
 use Rattle.rules.specs.Table as rules
 use Rattle.text.specs.Reads.{span}
 use Rattle.layout.specs.Layout.{rowsAt, tableWords, tableLength}
@@ -227,7 +229,7 @@ rowAt w i = span w (beginAt w i) (beginAt w (i + 1))
 abbrev pub bare : List (List ℕ) → List (List ℕ)
 bare rs = map (drop 1) rs
 
-abbrev pub tableAt : ℕ → Table → List ℕ → rules.Table
+abbrev pub tableAt : ℕ → Table → List ℕ → rules.Sections
 tableAt b t w = record {
   budget = b;
   names = bare (run (rowAt w) 1 (t .names));
@@ -238,11 +240,11 @@ tableAt b t w = record {
 }
 
 -- the table that the rows are
-unfoldable pub tableFrom : Table → List ℕ → rules.Table
+unfoldable pub tableFrom : Table → List ℕ → rules.Sections
 tableFrom t w = tableAt (cell (rowAt w 0) 1) t w
 
 -- what the code answers, with the rows that it left
-abbrev pub outcome : Answer → List ℕ → Result rules.Table
+abbrev pub outcome : Answer → List ℕ → Result rules.Sections
 outcome (Accepted t) w = accepted (tableFrom t w)
 outcome (Refused k l) w = refused k l
 
@@ -290,8 +292,8 @@ budgetBy stage w = if (eqb stage 0) (λ _. 0) (λ _. cell (rowAt w 0) 1)
 abbrev pub readingOf : Progress → List ℕ → Reading
 readingOf p w = record { stage = p .stage; ids = p .ids; table = tableAt (budgetBy (p .stage) w) (p .table) w }
 
-abbrev pub takenOf : Verdict → List ℕ → Taken
-takenOf (TakenV p) w = taken (readingOf p w)
+abbrev pub takenOf : Verdict → List ℕ → Admission
+takenOf (TakenV p) w = admitted (readingOf p w)
 takenOf (Fault k) w = fault k
 
 -- the rows so far stand one after the other, behind their beginnings, and end at top
@@ -333,7 +335,8 @@ pub record Lines (text w w′ : List ℕ) (r : Answer) : Type 0 where
   pub apart : Apart w w′
 
 pub record VarKnown (w : List ℕ) (from to n : ℕ) (r : Bool) : Type 0 where
-  pub is : r ≡ allBelow n (kids (rules.var (part (span w from to) 2 (cell (span w from to) 1)) (part (span w from to) (3 + cell (span w from to) 1) (cell (span w from to) (2 + cell (span w from to) 1)))))
+  pub is : r ≡ allBelow n (kids (rules.var (part (span w from to) 2 (cell (span w from to) 1)) (part (span w from to) (3 + cell (span w from to) 1)
+      (cell (span w from to) (2 + cell (span w from to) 1)))))
 
 pub record SetKnown (w : List ℕ) (from to n : ℕ) (r : Bool) : Type 0 where
   pub is : r ≡ allBelow n (rules.attrKids (rules.attrAt (span w from to) 1))
@@ -352,7 +355,7 @@ pub record EntryKnown (w : List ℕ) (from to n names : ℕ) (r : Bool) : Type 0
   pub is : r ≡ inRange n names (entryOf (span w from to))
 
 -- the table, where every row passes the test
-abbrev pub unless : Result (Unit {0}) → Table → List ℕ → Result rules.Table
+abbrev pub unless : Result (Unit {0}) → Table → List ℕ → Result rules.Sections
 unless m t w = then m (λ _. accepted (tableFrom t w))
 
 -- an answer that accepts is of the table asked for
@@ -361,10 +364,12 @@ Kept t (Accepted u) = u ≡ t
 Kept t (Refused k l) = Unit {0}
 
 pub record EntriesKnown (w : List ℕ) (t : Table) (r : Answer) : Type 0 where
-  pub is : outcome r w ≡ unless (known (λ (row : List ℕ). inRange (t .entries) (t .names) (entryOf row)) (2 + t .names) (run (rowAt w) (1 + t .names) (t .entries))) t w
+  pub is : outcome r w ≡ unless (known (λ (row : List ℕ). inRange (t .entries) (t .names) (entryOf row)) (2 + t .names) (run (rowAt w)
+      (1 + t .names) (t .entries))) t w
 
 pub record RootsKnown (w : List ℕ) (t : Table) (r : Answer) : Type 0 where
-  pub is : outcome r w ≡ unless (known (λ (row : List ℕ). ltb (cell row 0) (t .entries)) (2 + t .names + t .entries + t .pairs + t .marks) (bare (run (rowAt w) (1 + t .names + t .entries + t .pairs + t .marks) (t .roots)))) t w
+  pub is : outcome r w ≡ unless (known (λ (row : List ℕ). ltb (cell row 0) (t .entries)) (2 + t .names + t .entries + t .pairs + t .marks) (bare
+      (run (rowAt w) (1 + t .names + t .entries + t .pairs + t .marks) (t .roots)))) t w
   pub kept : Kept t r
 
 pub record Known (w : List ℕ) (t : Table) (r : Answer) : Type 0 where
@@ -373,7 +378,7 @@ pub record Known (w : List ℕ) (t : Table) (r : Answer) : Type 0 where
 
 -- a text read: what is answered, with the rows left, is what the text says
 pub record Read (text w : List ℕ) (r : Answer) : Type 0 where
-  pub is : outcome r w ≡ tableOf text
+  pub is : outcome r w ≡ sectionsOf text
   pub laid : LaidBy r w
 
 -- and what stood before the beginnings of rows stands there still

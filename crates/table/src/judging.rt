@@ -30,7 +30,7 @@ pub enum Verdict {
     Fault(u32),
 }
 
-// The section of a kind: 0 budget, 1 names, 2 entries, 3 pairs, 4 marks, 5 roots.
+// The section of a kind: 0 budget, 1 names, 2 entries, 3 pairs, 4 marks, 5 roots. There is none from 16 on.
 pub fn section_of(kind: u32) -> u32
     ensures { λ r. ⌜ Section kind r ⌝ }
 {
@@ -40,7 +40,10 @@ pub fn section_of(kind: u32) -> u32
     if kind < 13 {
         return 2;
     }
-    kind - 10
+    if kind < 16 {
+        return kind - 10;
+    }
+    0
 }
 
 // The ids and keys of an entry of a kind whose row is no list.

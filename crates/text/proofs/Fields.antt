@@ -7,7 +7,7 @@ use native.Mathlib.Nat.{lt-of-not-le}
 use mathlib.Core.List.{List, [], _∷_}
 use lib.ListN.{length, set, length-set}
 use borrow.Author.Tests.{le-leb, lt-leb, ne-eqb}
-use Rattle.rules.specs.Plain.{Maybe, some, _>>=_, given}
+use Rattle.rules.specs.Plain.{_>>=_, given}
 use Rattle.rules.specs.Text.{fieldOf, counted, upTo, dynOf}
 use lib.Dec.{leb}
 use Rattle.text.specs.declared.Num.{Num}
@@ -17,10 +17,11 @@ use Rattle.text.specs.declared.Got.the-variants.{Bad, To}
 use Rattle.text.specs.Reads.{span, numOf, Number, Word, Room, FieldRoom, Element, Listed, Bounded, Dyned, Signed, Named, Field}
 use Rattle.text.proofs.Leaves.{number-some}
 use Rattle.text.proofs.Lists.{wrote-at, wrote-none, wrote-one, wrote-two}
+use mathlib.Core.Option.{Option, some}
 
 -- a number of at most m
 is-bounded : (s : List ℕ) (from to most : ℕ) (a : Num) → Number s from to a → (o : Num) → a ≡ o → upTo most (span s from to) ≡ (numOf o >>= (λ (n : ℕ). given (leb n most) (n ∷ [])))
-is-bounded s from to most a p o q = ap (λ (m : Maybe ℕ). m >>= (λ (n : ℕ). given (leb n most) (n ∷ []))) (sym (p .is) ∙ ap numOf q)
+is-bounded s from to most a p o q = ap (λ (m : Option ℕ). m >>= (λ (n : ℕ). given (leb n most) (n ∷ []))) (sym (p .is) ∙ ap numOf q)
 
 module _ {s : List ℕ} {from to most top : ℕ} {w : List ℕ} {a : Num} (p : Number s from to a) where
   pub bounded-none : a ≡ No → Bounded s from to most top w w Bad
@@ -40,7 +41,7 @@ module _ {s : List ℕ} {from to top : ℕ} {w : List ℕ} {b : Bool} (room : Fi
 
   module _ {a : Num} (e : b ≡ false) (p : Number s from to a) where
     is-dyn : (o : Num) → a ≡ o → dynOf (span s from to) ≡ counted 1 (numOf o >>= (λ (n : ℕ). some (n ∷ [])))
-    is-dyn o q = simp (sym (h .is) ∙ e) (ap (λ (m : Maybe ℕ). counted 1 (m >>= (λ (n : ℕ). some (n ∷ [])))) (sym (p .is) ∙ ap numOf q))
+    is-dyn o q = simp (sym (h .is) ∙ e) (ap (λ (m : Option ℕ). counted 1 (m >>= (λ (n : ℕ). some (n ∷ [])))) (sym (p .is) ∙ ap numOf q))
 
     pub dyn-bad : a ≡ No → Dyned s from to top w w Bad
     dyn-bad q = record { wrote = wrote-none (is-dyn No q) }

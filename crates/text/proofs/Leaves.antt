@@ -8,12 +8,13 @@ use lib.ListN.{length}
 use borrow.Author.Tests.{lt-ltb, le-ltb, eq-eqb, ne-eqb}
 use Rattle.cells.specs.Part.{cell, eqList}
 use Rattle.cells.proofs.Parts.{eqList-same, eqList-other}
-use Rattle.rules.specs.Plain.{Maybe, none, some, _>>=_}
+use Rattle.rules.specs.Plain.{_>>=_}
 use Rattle.rules.specs.Text.{cut, pieces, digit, digits, number}
 use Rattle.text.specs.declared.Num.{Num}
 use Rattle.text.specs.declared.Num.the-variants.{No, Is}
 use Rattle.text.specs.Reads.{span, numOf, Digit, Digits, Number, Word, Seek}
 use Rattle.text.proofs.Spans.{span-none, span-next, span-snoc, span-whole}
+use mathlib.Core.Option.{Option, none, some}
 
 module _ {v b : ℕ} where
   pub digit-low : b < 48 → Digit v b No
@@ -48,10 +49,10 @@ module _ {s : List ℕ} {from to i v : ℕ} (inv : Counting s from to i v) where
   next h = ap (digits v) (sym (span-next s i to h)) ∙ inv .is
 
   pub count-more : {r : Num} {x : ℕ} → i < to → Digit v (cell s i) r → r ≡ Is x → Counting s from to (i + 1) x
-  count-more h p e = record { is = ap (λ (m : Maybe ℕ). m >>= (λ (x : ℕ). digits x (span s (i + 1) to))) (sym (ap numOf e) ∙ p .is) ∙ next h }
+  count-more h p e = record { is = ap (λ (m : Option ℕ). m >>= (λ (x : ℕ). digits x (span s (i + 1) to))) (sym (ap numOf e) ∙ p .is) ∙ next h }
 
   pub count-no : {r : Num} → i < to → Digit v (cell s i) r → r ≡ No → Digits s from to No
-  count-no h p e = record { is = ap (λ (m : Maybe ℕ). m >>= (λ (x : ℕ). digits x (span s (i + 1) to))) (sym (ap numOf e) ∙ p .is) ∙ next h }
+  count-no h p e = record { is = ap (λ (m : Option ℕ). m >>= (λ (x : ℕ). digits x (span s (i + 1) to))) (sym (ap numOf e) ∙ p .is) ∙ next h }
 
   pub count-done : to ≤ i → Digits s from to (Is v)
   count-done h = record { is = ap (digits v) (sym (span-none s i to h)) ∙ inv .is }

@@ -11,7 +11,7 @@ use lib.ListN.{length, set, length-set}
 use lib.Dec.{eqb}
 use borrow.Author.Tests.{eq-eqb, ne-eqb}
 use Rattle.cells.specs.Part.{if}
-use Rattle.rules.specs.Plain.{Maybe, none, some, _>>=_}
+use Rattle.rules.specs.Plain.{_>>=_}
 use Rattle.rules.specs.Text.{cut, pieces, number, elements, counted, listOf, keyed}
 use Rattle.text.specs.declared.Num.{Num}
 use Rattle.text.specs.declared.Num.the-variants.{No, Is}
@@ -21,26 +21,27 @@ use Rattle.text.specs.Reads.{span, numOf, Number, Word, Room, FieldRoom,
 use Rattle.text.proofs.Spans.{span-none, span-same, span-append, span-length, span-put, span-one, span-two, above-none, above-set, above-over}
 use Rattle.text.proofs.Follow.{follow, follow-nil, follow-more}
 use Rattle.text.proofs.Leaves.{number-some}
+use mathlib.Core.Option.{Option, none, some}
 
 -- what was written, said otherwise, or as more words at most
-pub wrote-at : {m m′ : Maybe (List ℕ)} {most most′ top : ℕ} {w w′ : List ℕ} {r : Got} → m ≡ m′ → most′ ≤ most → Wrote m′ most′ top w w′ r → Wrote m most top w w′ r
+pub wrote-at : {m m′ : Option (List ℕ)} {most most′ top : ℕ} {w w′ : List ℕ} {r : Got} → m ≡ m′ → most′ ≤ most → Wrote m′ most′ top w w′ r → Wrote m most top w w′ r
 wrote-at {m} {m′} {most} {most′} {top} {w} {w′} {r} e le p = record { above = p .above; is = p .is ∙ sym e; ends = more r (p .ends) }
   where
     more : (r : Got) → Ends top most′ r → Ends top most r
     more Bad e = tt
     more (To t) e = (e .0, omega (arith, e .1))
 
-pub wrote-none : {m : Maybe (List ℕ)} {most top : ℕ} {w : List ℕ} → m ≡ none → Wrote m most top w w Bad
+pub wrote-none : {m : Option (List ℕ)} {most top : ℕ} {w : List ℕ} → m ≡ none → Wrote m most top w w Bad
 wrote-none e = record { above = above-none; is = sym e; ends = tt }
 
-pub wrote-one : {m : Maybe (List ℕ)} {most top v : ℕ} {w : List ℕ} → m ≡ some (v ∷ []) → 1 ≤ most → top < length w → Wrote m most top w (set w top v) (To (top + 1))
+pub wrote-one : {m : Option (List ℕ)} {most top v : ℕ} {w : List ℕ} → m ≡ some (v ∷ []) → 1 ≤ most → top < length w → Wrote m most top w (set w top v) (To (top + 1))
 wrote-one {m} {most} {top} {v} {w} e h l = record {
   above = above-set top v above-none (omega arith);
   is = ap (λ (x : List ℕ). some x) (span-one w top v l) ∙ sym e;
   ends = (omega arith, omega arith);
 }
 
-pub wrote-two : {m : Maybe (List ℕ)} {most top u v : ℕ} {w : List ℕ} → m ≡ some (u ∷ v ∷ []) → 2 ≤ most → top + 1 < length w → Wrote m most top w (set (set w top u) (top + 1) v) (To (top + 2))
+pub wrote-two : {m : Option (List ℕ)} {most top u v : ℕ} {w : List ℕ} → m ≡ some (u ∷ v ∷ []) → 2 ≤ most → top + 1 < length w → Wrote m most top w (set (set w top u) (top + 1) v) (To (top + 2))
 wrote-two {m} {most} {top} {u} {v} {w} e h l = record {
   above = above-set (top + 1) v (above-set top u above-none (omega arith)) (omega arith);
   is = ap (λ (x : List ℕ). some x) (span-two w top u v l) ∙ sym e;
@@ -77,15 +78,15 @@ module _ {s : List ℕ} {from to e : ℕ} (x : Seek s from to 58 e) where
 
       pub keyed-no-key : {top : ℕ} {w : List ℕ} → a ≡ No → Keyed s from to top w w Bad
       keyed-no-key q = record {
-        wrote = wrote-none (two ∙ ap (λ (o : Maybe ℕ). o >>= (λ (i : ℕ). number (span s (e + 1) f) >>= (λ (j : ℕ). some (i ∷ j ∷ [])))) (sym (p .is) ∙ ap numOf q));
+        wrote = wrote-none (two ∙ ap (λ (o : Option ℕ). o >>= (λ (i : ℕ). number (span s (e + 1) f) >>= (λ (j : ℕ). some (i ∷ j ∷ [])))) (sym (p .is) ∙ ap numOf q));
       }
 
       module _ {b : Num} {k : ℕ} (key : a ≡ Is k) (r : Number s (e + 1) f b) where
         three : keyed (pieces 58 (span s from to)) ≡ (numOf b >>= (λ (j : ℕ). some (k ∷ j ∷ [])))
         three =
             two
-            ∙ ap (λ (o : Maybe ℕ). o >>= (λ (i : ℕ). number (span s (e + 1) f) >>= (λ (j : ℕ). some (i ∷ j ∷ [])))) (sym (p .is) ∙ ap numOf key)
-            ∙ ap (λ (o : Maybe ℕ). o >>= (λ (j : ℕ). some (k ∷ j ∷ []))) (sym (r .is))
+            ∙ ap (λ (o : Option ℕ). o >>= (λ (i : ℕ). number (span s (e + 1) f) >>= (λ (j : ℕ). some (i ∷ j ∷ [])))) (sym (p .is) ∙ ap numOf key)
+            ∙ ap (λ (o : Option ℕ). o >>= (λ (j : ℕ). some (k ∷ j ∷ []))) (sym (r .is))
 
         pub keyed-no-id : {top : ℕ} {w : List ℕ} → b ≡ No → Keyed s from to top w w Bad
         keyed-no-id q = record { wrote = wrote-none (three ∙ ap (λ (o : Num). numOf o >>= (λ (j : ℕ). some (k ∷ j ∷ []))) q) }
@@ -108,7 +109,7 @@ module _ {s : List ℕ} {from to e : ℕ} (x : Seek s from to 58 e) where
 
 -- an element
 is-single : (s : List ℕ) (from to each : ℕ) (a : Num) → (each ≡ 2 → ⊥) → Number s from to a → (o : Num) → a ≡ o → elementOf each (span s from to) ≡ (numOf o >>= (λ (n : ℕ). some (n ∷ [])))
-is-single s from to each a e p o q = simp (ne-eqb each 2 e) (ap (λ (m : Maybe ℕ). m >>= (λ (n : ℕ). some (n ∷ []))) (sym (p .is) ∙ ap numOf q))
+is-single s from to each a e p o q = simp (ne-eqb each 2 e) (ap (λ (m : Option ℕ). m >>= (λ (n : ℕ). some (n ∷ []))) (sym (p .is) ∙ ap numOf q))
 
 pub element-fits : {s : List ℕ} {from to top v : ℕ} {w : List ℕ} {a : Num} → Room s from to w top → Number s from to a → a ≡ Is v → top < length w
 element-fits {s} {from} {to} room p q = let bytes : from < to = lt-of-not-le (number-some p q) in omega (arith, room .room)
@@ -158,9 +159,9 @@ module _ {s : List ℕ} {from to each top : ℕ} {w₀ w : List ℕ} {i t e : �
 
   module _ {w′ : List ℕ} {r : Got} (p : Element s i e each t w w′ r) where
     -- the element's outcome, with the pieces after it
-    then : (ps : List (List ℕ)) (m : Maybe (List ℕ)) → pieces 44 (span s i to) ≡ span s i e ∷ ps → gotWords t w′ r ≡ m → follow (span w top t) (m >>= (λ (x : List ℕ). elements (elementOf each) ps >>= (λ (xs : List ℕ). some (x ++ xs)))) ≡ elements (elementOf each) (pieces 44 (span s from to))
+    then : (ps : List (List ℕ)) (m : Option (List ℕ)) → pieces 44 (span s i to) ≡ span s i e ∷ ps → gotWords t w′ r ≡ m → follow (span w top t) (m >>= (λ (x : List ℕ). elements (elementOf each) ps >>= (λ (xs : List ℕ). some (x ++ xs)))) ≡ elements (elementOf each) (pieces 44 (span s from to))
     then ps m h q =
-        ap (λ (o : Maybe (List ℕ)). follow (span w top t) (o >>= (λ (x : List ℕ). elements (elementOf each) ps >>= (λ (xs : List ℕ). some (x ++ xs))))) (sym q ∙ p .wrote .is)
+        ap (λ (o : Option (List ℕ)). follow (span w top t) (o >>= (λ (x : List ℕ). elements (elementOf each) ps >>= (λ (xs : List ℕ). some (x ++ xs))))) (sym q ∙ p .wrote .is)
         ∙ ap (λ (l : List (List ℕ)). follow (span w top t) (elements (elementOf each) l)) (sym h)
         ∙ inv .is
 
@@ -221,7 +222,7 @@ module _ {s : List ℕ} {from to each top : ℕ} {w : List ℕ} {b : Bool} (room
   list-dash e = record { wrote = wrote-one (simp (sym (h .is) ∙ e)) (omega arith) (omega (arith, room .room)) }
 
   module _ {w′ : List ℕ} {r : Got} (e : b ≡ false) (p : Elements s from to each (top + 1) w w′ r) where
-    is-counted : (m : Maybe (List ℕ)) → gotWords (top + 1) w′ r ≡ m → listOf each (elementOf each) (span s from to) ≡ counted each m
+    is-counted : (m : Option (List ℕ)) → gotWords (top + 1) w′ r ≡ m → listOf each (elementOf each) (span s from to) ≡ counted each m
     is-counted m q = simp (sym (h .is) ∙ e) (ap (counted each) (sym (p .wrote .is) ∙ q))
 
     pub list-bad : r ≡ Bad → Listed s from to each top w w′ Bad

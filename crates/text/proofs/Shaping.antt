@@ -10,7 +10,7 @@ use lib.ListN.{length, set}
 use lib.Dec.{eqb}
 use borrow.Author.Tests.{lt-ltb, le-ltb}
 use Rattle.cells.specs.Part.{cell, if}
-use Rattle.rules.specs.Plain.{Maybe, none, some, _>>=_}
+use Rattle.rules.specs.Plain.{_>>=_}
 use Rattle.rules.specs.Text.{cut, pieces, byShape, tagged, Kind, byWord, rowOf}
 use Rattle.text.specs.declared.Got.{Got}
 use Rattle.text.specs.declared.Got.the-variants.{Bad, To}
@@ -19,6 +19,7 @@ use Rattle.text.proofs.Follow.{follow, follow-nil, follow-more}
 use Rattle.text.proofs.Lists.{wrote-at}
 use Rattle.text.proofs.Spans.{span-none, span-next, span-same, span-append, span-whole, span-put, above-none, above-set, above-over}
 use Rattle.text.specs.Reads.{left, FieldRoom, ShapeRoom, Field, Shaped, Kinded, KindRoom, Row}
+use mathlib.Core.Option.{Option, none, some}
 
 -- the fields left
 left-here : (s : List ℕ) (i to e : ℕ) → i ≤ to → Seek s i to 9 e → left s i to ≡ span s i e ∷ left s (e + 1) to
@@ -57,7 +58,7 @@ shape-start {s} {from} {to} {sh} {top} {w} h = record {
   short = omega arith;
   above = above-none;
   is =
-      ap₂ {C = Maybe (List ℕ)} (λ (l q : List ℕ). follow l (byShape q (left s from to))) (span-none w (top + 1) (top + 1) (omega arith)) (span-whole sh)
+      ap₂ {C = Option (List ℕ)} (λ (l q : List ℕ). follow l (byShape q (left s from to))) (span-none w (top + 1) (top + 1) (omega arith)) (span-whole sh)
       ∙ follow-nil (byShape sh (left s from to));
 }
 
@@ -69,7 +70,7 @@ module _ {s : List ℕ} {from to : ℕ} {sh : List ℕ} {top : ℕ} {w₀ w : Li
   at-end h = ap (λ (q : List ℕ). follow (span w (top + 1) t) (byShape q (left s i to))) (sym (span-none sh k (length sh) h)) ∙ inv .is
 
   pub shape-few : {tag : ℕ} → k < length sh → to < i → Shaped s from to tag sh top w₀ w Bad
-  shape-few h q = shape-bad (inv .above) (sym (ap₂ {C = Maybe (List ℕ)} (λ (x : List ℕ) (y : List (List ℕ)). follow (span w (top + 1) t) (byShape x y)) (sym (span-next sh k (length sh) h)) (sym (left-none s i to q)) ∙ inv .is))
+  shape-few h q = shape-bad (inv .above) (sym (ap₂ {C = Option (List ℕ)} (λ (x : List ℕ) (y : List (List ℕ)). follow (span w (top + 1) t) (byShape x y)) (sym (span-next sh k (length sh) h)) (sym (left-none s i to q)) ∙ inv .is))
 
   pub shape-done : {tag : ℕ} → ShapeRoom s from to w₀ top → length sh ≤ k → to < i → Shaped s from to tag sh top w₀ (set w top tag) (To t)
   shape-done {tag} room h q = record {
@@ -103,10 +104,10 @@ module _ {s : List ℕ} {from to : ℕ} {sh : List ℕ} {top : ℕ} {w₀ w : Li
     }
 
     module _ {w′ : List ℕ} {r : Got} (lt : k < length sh) (p : Field s i e (cell sh k) t w w′ r) where
-      turn : (m : Maybe (List ℕ)) → gotWords t w′ r ≡ m → follow (span w (top + 1) t) (m >>= (λ (x : List ℕ). byShape (span sh (k + 1) (length sh)) (left s (e + 1) to) >>= (λ (xs : List ℕ). some (x ++ xs)))) ≡ byShape sh (left s from to)
+      turn : (m : Option (List ℕ)) → gotWords t w′ r ≡ m → follow (span w (top + 1) t) (m >>= (λ (x : List ℕ). byShape (span sh (k + 1) (length sh)) (left s (e + 1) to) >>= (λ (xs : List ℕ). some (x ++ xs)))) ≡ byShape sh (left s from to)
       turn m q =
-          ap (λ (o : Maybe (List ℕ)). follow (span w (top + 1) t) (o >>= (λ (x : List ℕ). byShape (span sh (k + 1) (length sh)) (left s (e + 1) to) >>= (λ (xs : List ℕ). some (x ++ xs))))) (sym q ∙ p .wrote .is)
-          ∙ ap₂ {C = Maybe (List ℕ)} (λ (x : List ℕ) (z : List (List ℕ)). follow (span w (top + 1) t) (byShape x z)) (sym (span-next sh k (length sh) lt)) (sym (left-here s i to e le y))
+          ap (λ (o : Option (List ℕ)). follow (span w (top + 1) t) (o >>= (λ (x : List ℕ). byShape (span sh (k + 1) (length sh)) (left s (e + 1) to) >>= (λ (xs : List ℕ). some (x ++ xs))))) (sym q ∙ p .wrote .is)
+          ∙ ap₂ {C = Option (List ℕ)} (λ (x : List ℕ) (z : List (List ℕ)). follow (span w (top + 1) t) (byShape x z)) (sym (span-next sh k (length sh) lt)) (sym (left-here s i to e le y))
           ∙ inv .is
 
       above-too : Above (top + 1) w₀ w′
@@ -132,11 +133,11 @@ module _ {s : List ℕ} {from to : ℕ} {sh : List ℕ} {top : ℕ} {w₀ w : Li
           }
 
 -- a row, by its keyword
-module _ {s : List ℕ} {from k to top : ℕ} {w w′ : List ℕ} {r : Got} {n : ℕ} {v sh : List ℕ} {ks : List Kind} {b : Bool} (h : Word s from k v b) where
-  pub kind-here : b ≡ true → Shaped s (k + 1) to n sh top w w′ r → Kinded (record { word = v; shape = sh } ∷ ks) n s from k to top w w′ r
+module _ {s : List ℕ} {from k to top : ℕ} {w w′ : List ℕ} {r : Got} {n c : ℕ} {v sh : List ℕ} {ks : List Kind} {b : Bool} (h : Word s from k v b) where
+  pub kind-here : b ≡ true → Shaped s (k + 1) to n sh top w w′ r → Kinded (record { word = v; section = c; shape = sh } ∷ ks) n s from k to top w w′ r
   kind-here e p = record { wrote = wrote-at (simp (sym (h .is) ∙ e)) (omega arith) (p .wrote) }
 
-  pub kind-next : b ≡ false → Kinded ks (suc n) s from k to top w w′ r → Kinded (record { word = v; shape = sh } ∷ ks) n s from k to top w w′ r
+  pub kind-next : b ≡ false → Kinded ks (suc n) s from k to top w w′ r → Kinded (record { word = v; section = c; shape = sh } ∷ ks) n s from k to top w w′ r
   kind-next e p = record { wrote = wrote-at (simp (sym (h .is) ∙ e)) (omega arith) (p .wrote) }
 
 pub kind-none : {s : List ℕ} {from k to top : ℕ} {w : List ℕ} {n : ℕ} → Kinded [] n s from k to top w w Bad

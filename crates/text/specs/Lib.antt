@@ -1,2 +1,3 @@
+pub mod Escapes
 -- What the contracts cite.
 pub mod Reads

@@ -6,25 +6,26 @@ use mathlib.Core.List.{List, [], _∷_}
 use lib.ListN.{length}
 use lib.Dec.{eqb, ltb}
 use Rattle.cells.specs.Part.{cell, part, if, eqList}
-use Rattle.rules.specs.Plain.{Maybe, none, some}
-use Rattle.rules.specs.Text.{tab, comma, colon, pieces, digit, digits, number, elements, listOf, single, keyed, hex, escaped, bad, move, put, next, name, upTo, signOf, dynOf, fieldOf, byShape, Kind, tagged, recordIn, rowOf}
-use Rattle.rules.specs.Text as text
+use Rattle.rules.specs.Text.{tab, comma, colon, pieces, digit, digits, number, elements, listOf, single, keyed, hex, escaped, name, upTo, signOf}
+use Rattle.rules.specs.Text.{dynOf, fieldOf, byShape, Kind, tagged, recordIn, rowOf}
 use Rattle.text.specs.declared.Num.{Num}
 use Rattle.text.specs.declared.Num.the-variants.{No, Is}
 use Rattle.text.specs.declared.Got.{Got}
 use Rattle.text.specs.declared.Got.the-variants.{Bad, To}
+use Rattle.text.specs.Escapes.{Read, bad, move, put, next}
 use Rattle.text.specs.declared.Step.{Step}
 use Rattle.text.specs.declared.Step.the-variants.{Wrong, Move, Put}
+use mathlib.Core.Option.{Option, none, some}
 
 -- the cells from a up to e
 abbrev pub span : List ℕ → ℕ → ℕ → List ℕ
 span s a e = part s a (e - a)
 
-abbrev pub numOf : Num → Maybe ℕ
+abbrev pub numOf : Num → Option ℕ
 numOf No = none
 numOf (Is v) = some v
 
-abbrev pub stepOf : Step → text.Step
+abbrev pub stepOf : Step → Read
 stepOf Wrong = bad
 stepOf (Move q) = move q
 stepOf (Put x) = put x
@@ -94,7 +95,7 @@ pub record Above (t : ℕ) (w w′ : List ℕ) : Type 0 where
   pub below : (k : ℕ) → k < t → cell w′ k ≡ cell w k
 
 -- the words written from top on
-abbrev pub gotWords : ℕ → List ℕ → Got → Maybe (List ℕ)
+abbrev pub gotWords : ℕ → List ℕ → Got → Option (List ℕ)
 gotWords top w Bad = none
 gotWords top w (To t) = some (span w top t)
 
@@ -104,7 +105,7 @@ Ends top most Bad = Unit {0}
 Ends top most (To t) = (top ≤ t) × (t ≤ top + most)
 
 -- what is written from top on is what m says, and at most most words
-pub record Wrote (m : Maybe (List ℕ)) (most top : ℕ) (w w′ : List ℕ) (r : Got) : Type 0 where
+pub record Wrote (m : Option (List ℕ)) (most top : ℕ) (w w′ : List ℕ) (r : Got) : Type 0 where
   pub above : Above top w w′
   pub is : gotWords top w′ r ≡ m
   pub ends : Ends top most r
@@ -116,7 +117,7 @@ pub record Keyed (s : List ℕ) (from to top : ℕ) (w w′ : List ℕ) (r : Got
   pub wrote : Wrote (keyed (pieces colon (span s from to))) (to - from) top w w′ r
 
 -- an element of a list, by the number of words that it takes
-abbrev pub elementOf : ℕ → List ℕ → Maybe (List ℕ)
+abbrev pub elementOf : ℕ → List ℕ → Option (List ℕ)
 elementOf each = if (eqb each 2) (λ _. λ (p : List ℕ). keyed (pieces colon p)) (λ _. single)
 
 pub record Element (s : List ℕ) (from to each top : ℕ) (w w′ : List ℕ) (r : Got) : Type 0 where

@@ -1,11 +1,22 @@
 use mathlib.Core.Path.{sym}
 use lib.Seq.{length-take-le}
+use Rattle.programs.proofs.Showing.{parts-shown}
 use borrow.Author.Needs.{needs}
 use Rattle.programs.proofs.answer_parts.Statement.{statement}
 use Rattle.programs.proofs.answer_parts.Tie as tie
 
 slice-aggregate-answer-recheck : tie.Need-slice-aggregate-answer-recheck
 slice-aggregate-answer-recheck c = sym (length-take-le _ _ (search needs))
+
+returns : tie.Need-returns
+returns c =
+    let answer-recheck = c .before .before .answer-recheck in
+    let behind2 = c .before .before .before .before .before .before .before .behind2 in
+    let until-next2 = c .before .before .before .before .before .before .before .before .until-next2 in
+    let behind = c .before .before .before .before .before .before .before .before .before .behind in
+    let until-next = c .before .before .before .before .before .before .before .before .before .before .until-next in
+    let args = c .before .before .before .before .before .before .before .before .before .before .before .before .before .args in
+    parts-shown (args .input .now) (until-next .ensures) (behind .ensures) (until-next2 .ensures) (behind2 .ensures) (answer-recheck .ensures)
 
 pub answer-parts-spec : {M : Type 1} → statement M
 answer-parts-spec =
@@ -24,4 +35,4 @@ answer-parts-spec =
     (λ c. search needs)
     (λ c _. search needs)
     (λ c. search needs)
-    (λ c. search needs))
+    returns)

@@ -1,12 +1,11 @@
 use borrow.Author.Needs.{needs}
-use Prim.Native.Nat.{_-_, _≤_}
-use mathlib.Core.Path.{_≡_}
-use lib.ListN.{length}
+use Prim.Native.Nat.{_-_}
+use Rattle.answers.proofs.Promises.{Copying, copying-start, copying-more, copying-done}
 use Rattle.answers.proofs.outcome.copy.Statement.{statement}
 use Rattle.answers.proofs.outcome.copy.Tie as tie
 
 abbrev Inv-loop : tie.InvT-loop
-Inv-loop out₀ draft n i₀ out i = (i ≤ n) × (length out ≡ length out₀)
+Inv-loop out₀ draft n i₀ out i = Copying out₀ draft out n i
 
 abbrev μ-loop : tie.MeasureT-loop
 μ-loop out₀ draft n i₀ out i = n - i
@@ -17,11 +16,11 @@ copy-spec =
     (tie.spec
     Inv-loop
     μ-loop
+    (λ c. search (needs, copying-start))
     (λ c. search needs)
     (λ c. search needs)
     (λ c. search needs)
     (λ c. search needs)
+    (λ c. search (needs, copying-more))
     (λ c. search needs)
-    (λ c. search needs)
-    (λ c. search needs)
-    (λ c. search needs))
+    (λ c. search (needs, copying-done)))

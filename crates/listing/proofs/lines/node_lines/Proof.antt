@@ -1,15 +1,23 @@
+use Rattle.listing.proofs.NodeLines.{NodesWritten, nodes-start, node-lines-more, node-lines-done}
+use Prim.Native.Nat.{_-_}
 use borrow.Author.Needs.{needs}
-use Prim.Native.Nat.{_-_, _≤_}
-use mathlib.Core.Path.{_≡_}
-use lib.ListN.{length}
 use Rattle.listing.proofs.lines.node_lines.Statement.{statement}
 use Rattle.listing.proofs.lines.node_lines.Tie as tie
 
 abbrev Inv-loop : tie.InvT-loop
-Inv-loop arena work out₀ at n p₀ k₀ out p k = (k ≤ n) × (length out ≡ length out₀)
+Inv-loop out₀ arena work at n p₀ k₀ out p k = NodesWritten arena work n at out₀ out p k
 
 abbrev μ-loop : tie.MeasureT-loop
-μ-loop arena work out₀ at n p₀ k₀ out p k = n - k
+μ-loop out₀ arena work at n p₀ k₀ out p k = n - k
+
+loop-holds : tie.Need-loop-holds Inv-loop μ-loop
+loop-holds c = nodes-start
+
+loop-again : tie.Need-loop-again Inv-loop μ-loop
+loop-again c = search node-lines-more
+
+returns : tie.Need-returns Inv-loop μ-loop
+returns c = search node-lines-done
 
 pub node-lines-spec : {M : Type 1} → statement M
 node-lines-spec =
@@ -17,10 +25,10 @@ node-lines-spec =
     (tie.spec
     Inv-loop
     μ-loop
-    (λ c. search needs)
+    loop-holds
     (λ c _. search needs)
     (λ c. search needs)
     (λ c. search needs)
+    loop-again
     (λ c. search needs)
-    (λ c. search needs)
-    (λ c. search needs))
+    returns)

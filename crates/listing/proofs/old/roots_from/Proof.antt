@@ -7,10 +7,10 @@ use Rattle.listing.proofs.old.roots_from.Statement.{statement}
 use Rattle.listing.proofs.old.roots_from.Tie as tie
 
 abbrev Inv-loop : tie.InvT-loop
-Inv-loop s from names table first roots spans₀ words₀ at₀ line₀ i₀ spans words at line i = Rooting s from names table first roots spans₀ spans at line i × (length words ≡ length words₀)
+Inv-loop s spans₀ table words₀ from names first roots at₀ line₀ i₀ spans words at line i = Rooting s from names table first roots spans₀ spans at line i × (length words ≡ length words₀)
 
 abbrev μ-loop : tie.MeasureT-loop
-μ-loop s from names table first roots spans₀ words₀ at₀ line₀ i₀ spans words at line i = roots - i
+μ-loop s spans₀ table words₀ from names first roots at₀ line₀ i₀ spans words at line i = roots - i
 
 loop-holds : tie.Need-loop-holds Inv-loop μ-loop
 loop-holds c = (search rooting-start, search needs)

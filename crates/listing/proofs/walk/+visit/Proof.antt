@@ -1,8 +1,7 @@
+use Rattle.listing.proofs.Numbering.{visits-seen, Visiting, visiting-start, visiting-more, visiting-past, visiting-done}
 use mathlib.Core.Logic.{⊎-elim}
 use borrow.Author.Needs.{needs}
-use mathlib.Core.Path.{_≡_}
-use lib.ListN.{length}
-use Prim.Native.Nat.{ℕ, _<_, _-_, _≤_}
+use Prim.Native.Nat.{ℕ, _<_, _-_}
 use borrow.Fn.Kinds.{In}
 use borrow.Fn.PlainCycle.{Measures, is, falls, and}
 use Rattle.listing.proofs.walk.visit.Reads as visit
@@ -28,7 +27,7 @@ abbrev visit-below : ℕ → In 2 visit-kinds.ps
 visit-below t = and 2 visit-kinds.ps (falls 2 visit-kinds.ps _<_ μ-visit t) visit.Pre
 
 abbrev visit-Inv-loop : visit-lts.InvT-loop
-visit-Inv-loop arena work₀ x k n next₀ i₀ work next i = (i ≤ n) × (length work ≡ length work₀)
+visit-Inv-loop arena work₀ x k n next₀ i₀ work next i = Visiting arena work₀ x k n work next i
 
 abbrev visit-μ-loop : visit-lts.MeasureT-loop
 visit-μ-loop arena work₀ x k n next₀ i₀ work next i = n - i
@@ -37,8 +36,17 @@ visit-μ-loop arena work₀ x k n next₀ i₀ work next i = n - i
 abbrev visit-calls : ℕ → visit-lts.Claims
 visit-calls t = (at-reads.Asked, at-reads.Learnt, children-reads.Asked, children-reads.Learnt, child-reads.Asked, child-reads.Learnt, visit-below t, visit.Post, place-reads.Asked, place-reads.Learnt, put-reads.Asked, put-reads.Learnt, add-reads.Asked, add-reads.Learnt, set-reads.Asked, set-reads.Learnt)
 
+visit-returns : (t : ℕ) → visit-lts.Need-returns (visit-calls t) (visit-at t) visit.Post visit-Inv-loop visit-μ-loop
+visit-returns t c = search visits-seen
+
+visit-loop-holds : (t : ℕ) → visit-lts.Need-loop-holds (visit-calls t) (visit-at t) visit.Post visit-Inv-loop visit-μ-loop
+visit-loop-holds t c = visiting-start
+
 visit-loop-again : (t : ℕ) → visit-lts.Need-loop-again (visit-calls t) (visit-at t) visit.Post visit-Inv-loop visit-μ-loop
-visit-loop-again t c = ⊎-elim (λ w. search needs) (λ w. search needs) (c .if2 .came)
+visit-loop-again t c = ⊎-elim (λ w. search visiting-more) (λ w. search visiting-past) (c .if2 .came)
+
+visit-returns-2 : (t : ℕ) → visit-lts.Need-returns-2 (visit-calls t) (visit-at t) visit.Post visit-Inv-loop visit-μ-loop
+visit-returns-2 t c = search visiting-done
 
 pub +visit-spec : {M : Type 1} → statement M
 +visit-spec = close μ-visit λ t. visit-lts.spec (visit-calls t)
@@ -48,9 +56,9 @@ pub +visit-spec : {M : Type 1} → statement M
     visit-μ-loop
     (λ c _. search needs)
     (λ c. search needs)
-    (λ c. search needs)
+    (visit-returns t)
     (λ c _. search needs)
-    (λ c. search needs)
+    (visit-loop-holds t)
     (λ c _. search needs)
     (λ c _. search needs)
     (λ c. search needs)
@@ -61,4 +69,4 @@ pub +visit-spec : {M : Type 1} → statement M
     (λ c _. search needs)
     (λ c _. search needs)
     (λ c. search needs)
-    (λ c. search needs)
+    (visit-returns-2 t)

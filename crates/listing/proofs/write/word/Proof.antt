@@ -12,7 +12,7 @@ abbrev μ-loop : tie.MeasureT-loop
 μ-loop out₀ at w p₀ i₀ out p i = length w - i
 
 loop-holds : tie.Need-loop-holds Inv-loop μ-loop
-loop-holds c = wording-start (search needs)
+loop-holds c = wording-start
 
 loop-again : tie.Need-loop-again Inv-loop μ-loop
 loop-again c = search wording-more

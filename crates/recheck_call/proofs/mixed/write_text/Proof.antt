@@ -1,15 +1,36 @@
-use borrow.Author.Needs.{needs}
+use native.Mathlib.Omega.{arith}
 use Prim.Native.Nat.{_-_, _≤_}
-use mathlib.Core.Path.{_≡_}
+use mathlib.Core.Path.{_≡_, refl, _∙_}
 use lib.ListN.{length}
+use Rattle.recheck_call.proofs.Mixing.{Mixing, mixing-start, mixing-next, mixing-done}
+use borrow.Author.Needs.{needs}
 use Rattle.recheck_call.proofs.mixed.write_text.Statement.{statement}
 use Rattle.recheck_call.proofs.mixed.write_text.Tie as tie
 
 abbrev Inv-loop : tie.InvT-loop
-Inv-loop listing out₀ old table₀ g arena₀ work₀ n head p₀ i₀ out table arena work p i = (i ≤ n) × (n ≤ 4294967295) × (length out ≡ length out₀) × (length table ≡ length table₀) × (length arena ≡ length arena₀) × (length work ≡ length work₀)
+Inv-loop listing out₀ old table₀ g arena₀ work₀ n head p₀ i₀ out table arena work p i =
+    (n ≡ g .roots) × (n ≤ 4294967295) × (length out ≡ length out₀) × (length table ≡ length table₀)
+    × Mixing listing old g table₀ arena₀ work₀ out₀ table arena work out p₀ p n i
 
 abbrev μ-loop : tie.MeasureT-loop
 μ-loop listing out₀ old table₀ g arena₀ work₀ n head p₀ i₀ out table arena work p i = n - i
+
+loop-holds : tie.Need-loop-holds Inv-loop μ-loop
+loop-holds c = (refl, omega arith, refl, refl, mixing-start)
+
+loop-again : tie.Need-loop-again Inv-loop μ-loop
+loop-again c =
+    let write-root = c .before .before .before .before .before .before .before .before .write-root in
+    let loop = c .before .before .before .before .before .before .before .before .before .before .before .before .before .before .loop in
+    (refl, omega arith, write-root .kept .1 .0 ∙ loop .inv .2, write-root .kept .1 .1 .1 .0 ∙ loop .inv .3,
+    mixing-next (loop .inv .4) refl (omega arith) (write-root .kept .1 .1 .1 .1 .1 .0) (write-root .kept .1 .1 .1 .1 .1 .1 .0) (write-root .ensures))
+
+returns : tie.Need-returns Inv-loop μ-loop
+returns c =
+    let loop = c .before .loop in
+    let answers = c .before .before .before .before .answers in
+    let write-words = c .before .before .before .before .before .before .before .before .write-words in
+    mixing-done (write-words .ensures) (answers .ensures) refl (loop .inv .4) (omega arith)
 
 pub write-text-spec : {M : Type 1} → statement M
 write-text-spec =
@@ -19,13 +40,13 @@ write-text-spec =
     μ-loop
     (λ c _. search needs)
     (λ c _. search needs)
-    (λ c. search needs)
+    loop-holds
     (λ c _. search needs)
     (λ c. search needs)
     (λ c. search needs)
+    loop-again
     (λ c. search needs)
     (λ c. search needs)
     (λ c. search needs)
     (λ c. search needs)
-    (λ c. search needs)
-    (λ c. search needs))
+    returns)

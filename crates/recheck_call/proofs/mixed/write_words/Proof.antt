@@ -1,15 +1,26 @@
-use Prim.Native.Nat.{_-_, _≤_}
-use mathlib.Core.Path.{_≡_}
-use lib.ListN.{length}
 use borrow.Author.Needs.{needs}
+use Prim.Native.Nat.{_-_}
+use Rattle.recheck_call.proofs.Mixing.{Worded, worded-start, worded-next, worded-done}
 use Rattle.recheck_call.proofs.mixed.write_words.Statement.{statement}
 use Rattle.recheck_call.proofs.mixed.write_words.Tie as tie
 
 abbrev Inv-loop : tie.InvT-loop
-Inv-loop out₀ old n p₀ i₀ out p i = (i ≤ n) × (length out ≡ length out₀)
+Inv-loop out₀ old n p₀ i₀ out p i = Worded old out₀ out p n i
 
 abbrev μ-loop : tie.MeasureT-loop
 μ-loop out₀ old n p₀ i₀ out p i = n - i
+
+loop-holds : tie.Need-loop-holds Inv-loop μ-loop
+loop-holds c = worded-start
+
+loop-again : tie.Need-loop-again Inv-loop μ-loop
+loop-again c =
+    let write-word = c .before .before .write-word in
+    let loop = c .before .before .before .before .before .loop in
+    worded-next (loop .inv) (search needs) (write-word .kept .0) (write-word .ensures)
+
+returns : tie.Need-returns Inv-loop μ-loop
+returns c = worded-done (c .before .before .before .before .before .loop .inv) (search needs) (c .before .before .byte .ensures)
 
 pub write-words-spec : {M : Type 1} → statement M
 write-words-spec =
@@ -17,11 +28,11 @@ write-words-spec =
     (tie.spec
     Inv-loop
     μ-loop
-    (λ c. search needs)
+    loop-holds
     (λ c _. search needs)
     (λ c. search needs)
     (λ c. search needs)
-    (λ c. search needs)
+    loop-again
     (λ c _. search needs)
     (λ c. search needs)
-    (λ c. search needs))
+    returns)

@@ -1,0 +1,48 @@
+use native.Mathlib.Omega.{arith}
+use Rattle.answers.proofs.Running.{root-shown, root-refused}
+use borrow.Author.Needs.{needs}
+use Rattle.answers.proofs.roots.write_root.Statement.{statement}
+use Rattle.answers.proofs.roots.write_root.Tie as tie
+
+returns : tie.Need-returns
+returns c =
+    let write-refused = c .before .before .write-refused in
+    let enum-told = c .before .before .before .before .enum-told in
+    let canonicalize = c .before .before .before .before .before .before .before .before .before .before .before .before .canonicalize in
+    let polarity = c .before .before .before .before .before .before .before .before .before .before .before .before .before .polarity in
+    root-refused (canonicalize .ensures) (polarity .ensures) (enum-told .given .1) (canonicalize .kept .0) (write-refused .ensures)
+
+returns-2 : tie.Need-returns-2
+returns-2 c =
+    let mid = c .before .before .before .before .before .before .before .before .before .before .before .before .before .before in
+    let root-lines = c .before .before .before .before .root-lines in
+    let known-told = c .before .before .before .before .before .before .before .before .known-told in
+    let answer = c .before .before .before .before .before .before .before .before .before .answer in
+    let slice-known6 = c .before .before .before .before .before .before .before .before .before .before .before .before .before .slice-known6 in
+    let canonicalize = mid .before .before .before .canonicalize in
+    let polarity = mid .before .before .before .before .polarity in
+    let fits = mid .before .before .before .before .before .before .before .before .before .before .before .before .before .fits in
+    root-shown (canonicalize .ensures) (polarity .ensures) (answer .given .1) (canonicalize .kept .0) (canonicalize .kept .1 .1 .1 .0)
+    (λ k. omega (arith, slice-known6 .given k))
+    (omega (arith, fits .id), (omega (arith, fits .sign), (omega (arith, known-told .given), (omega (arith, known-told .given), tt)))) (root-lines .ensures)
+
+pub write-root-spec : {M : Type 1} → statement M
+write-root-spec =
+    tie.close
+    (tie.spec
+    (λ c _. search needs)
+    (λ c _. search needs)
+    (λ c. search needs)
+    (λ c. search needs)
+    (λ c _. search needs)
+    (λ c. search needs)
+    (λ c. search needs)
+    (λ c. search needs)
+    (λ c. search needs)
+    returns
+    (λ c _. search needs)
+    (λ c. search needs)
+    (λ c. search needs)
+    (λ c. search needs)
+    (λ c. search needs)
+    returns-2)

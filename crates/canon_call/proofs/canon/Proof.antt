@@ -1,0 +1,20 @@
+use Rattle.rules.specs.Calls.{canonCall}
+use borrow.Author.Needs.{needs}
+use Rattle.canon_call.proofs.canon.Statement.{statement}
+use Rattle.canon_call.proofs.canon.Tie as tie
+
+returns : tie.Need-returns
+unfolding canonCall
+returns c = c .before .before .before .before .before .before .before .before .before .before .call .ensures
+
+pub canon-spec : {M : Type 1} → statement M
+canon-spec =
+    tie.close
+    (tie.spec
+    (λ c _. search needs)
+    (λ c. search needs)
+    (λ c. search needs)
+    (λ c. search needs)
+    (λ c. search needs)
+    (λ c. search needs)
+    returns)

@@ -1,0 +1,2 @@
+-- What the contracts assume and the laws show.
+pub mod Sound

@@ -1,0 +1,80 @@
+-- What the functions of lines.rt ensure: the rules' lines, written.
+use Prim.Native.Nat.{ℕ, suc, _≤_, _<_}
+use mathlib.Core.List.{List, [], _∷_, _++_, map}
+use lib.ListN.{length, getD, drop}
+use lib.Dec.{eqb}
+use Rattle.cells.specs.Part.{if, part}
+use Rattle.layout.specs.Layout.{workLength}
+use Rattle.rules.specs.Plain.{flag, position}
+use Rattle.rules.specs.Text.{tab, comma, decimal, listText, keyedText, shapeTexts, noKind}
+use Rattle.rules.specs.Table.{Attr}
+use Rattle.rules.specs.Types.{Node, AttrSet, nodeKinds, encode, kindOf, fieldWords, nodeAt}
+use Rattle.rules.specs.Canonicalizer.{Shown, shown}
+use Rattle.rules.specs.Listing.{headText, walk, renumber, renumberField, nodeText, nodeTexts, answerText}
+use Rattle.lang_ty.specs.declared.arena.Pass.{Pass}
+use Rattle.lang_ty.specs.Nodes.{Arena}
+use Rattle.lang_ty.specs.Sets.{SetAt}
+use Rattle.listing.specs.declared.lines.Head.{Head}
+use Rattle.listing.specs.Writes.{Wrote}
+use Rattle.listing.specs.Walks.{numberOf, Numbered}
+
+-- fields, each with the tab that parts it from what stands before
+abbrev pub tabbed : List (List ℕ) → List ℕ
+tabbed [] = []
+tabbed (f ∷ fs) = tab ∷ (f ++ tabbed fs)
+
+-- the fields of a root's line behind its sign
+abbrev pub countTexts : Head → ℕ → List (List ℕ)
+countTexts s n = decimal (s .passes) ∷ decimal (s .ops) ∷ decimal (flag (s .sorted)) ∷ decimal (flag (s .bailed)) ∷ decimal n ∷ []
+
+-- the line of a root with n nodes
+abbrev pub headLine : ℕ → ℕ → Head → ℕ → List ℕ
+headLine id sign s n = headText (1 ∷ id ∷ sign ∷ s .passes ∷ s .ops ∷ flag (s .sorted) ∷ flag (s .bailed) ∷ n ∷ [])
+
+-- what stands before element i of a list
+abbrev pub partedBy : ℕ → ℕ
+partedBy i = if (eqb i 0) (λ _. tab) (λ _. comma)
+
+-- what stands behind the keyword of a node
+abbrev pub contentsText : Node → List ℕ
+contentsText n = tabbed (shapeTexts (getD nodeKinds (kindOf n) noKind .shape) (drop 1 (encode n)))
+
+-- a node by its number
+abbrev pub numbered : List ℕ → ℕ → List ℕ
+numbered work y = decimal (numberOf work y)
+
+-- the n cells from a on, each as f writes it
+pub record WroteList (f : ℕ → List ℕ) (w : List ℕ) (a n p : ℕ) (o o′ : List ℕ) (r : ℕ) : Type 0 where
+  pub is : Wrote (tab ∷ listText (map f (part w a n))) p o o′ r
+
+-- the fields of the set at a, with the numbers of their nodes
+pub record WroteFields (w work : List ℕ) (a p : ℕ) (o o′ : List ℕ) (r : ℕ) : Type 0 where
+  pub is : {t : Attr} → SetAt w a t → Wrote (tab ∷ listText (keyedText (fieldWords (map (renumberField (numberOf work)) (t .fields))))) p o o′ r
+
+pub record WroteSet (w work : List ℕ) (a p : ℕ) (o o′ : List ℕ) (r : ℕ) : Type 0 where
+  pub is : {t : Attr} → SetAt w a t → Wrote (contentsText (renumber (numberOf work) (AttrSet t))) p o o′ r
+
+pub record WroteContents (arena work : List ℕ) (x p : ℕ) (o o′ : List ℕ) (r : ℕ) : Type 0 where
+  pub is : {q : Pass} {ns : List Node} → Arena arena q ns → x < length ns → Wrote (contentsText (renumber (numberOf work) (nodeAt ns x))) p o o′ r
+
+-- the keyword of a kind from low on
+pub record WroteKeyword (low kind p : ℕ) (o o′ : List ℕ) (r : ℕ) : Type 0 where
+  pub is : low ≤ kind → kind < length nodeKinds → Wrote (getD nodeKinds kind noKind .word) p o o′ r
+
+-- the line of node k of a listing whose nodes were numbered from x on
+pub record WroteNode (arena work : List ℕ) (k p : ℕ) (o o′ : List ℕ) (r : ℕ) : Type 0 where
+  pub is : {q : Pass} {ns : List Node} {x n : ℕ} → Arena arena q ns → x < length ns → Numbered work (suc x) (walk ns x) n → k < n
+      → Wrote (nodeText k (renumber (λ (y : ℕ). position (eqb y) (walk ns x)) (nodeAt ns (getD (walk ns x) k 0)))) p o o′ r
+
+pub record WroteNodes (arena work : List ℕ) (n p : ℕ) (o o′ : List ℕ) (r : ℕ) : Type 0 where
+  pub is : {q : Pass} {ns : List Node} {x : ℕ} → Arena arena q ns → x < length ns → Numbered work (suc x) (walk ns x) n
+      → Wrote (nodeTexts ns (walk ns x) 0 (walk ns x)) p o o′ r
+
+-- what a head and the nodes of a pass show
+abbrev pub shownOf : Head → List Node → Shown
+shownOf s ns = record { passes = s .passes; operations = s .ops; sorted = s .sorted; bailed = s .bailed; nodes = ns; root = s .node }
+
+-- the lines of a root that is not refused
+pub record WroteRoot (arena work : List ℕ) (id sign : ℕ) (s : Head) (p : ℕ) (o o′ : List ℕ) (r : ℕ) : Type 0 where
+  pub is : {q : Pass} {ns : List Node} → Arena arena q ns → s .node < length ns → workLength ≤ length work
+      → Wrote (answerText id sign (shown (shownOf s ns))) p o o′ r
