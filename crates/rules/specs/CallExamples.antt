@@ -82,12 +82,12 @@ abbrev pub four : String → List ℕ
 four bound = ascii "budget\t1\nvar\t2\t-\nvar\t-\t2\n" ++ ascii bound ++ ascii "tyvar\t2\nroot\t0\t+\nroot\t1\t+\nroot\t2\t+\nroot\t3\t+\n"
 
 -- Int as the only root, with what stands before its line
-abbrev pub sole : String → List ℕ
-sole lines = ascii "budget\t1\nprim\t0\n" ++ ascii lines ++ ascii "root\t0\t+\n"
+abbrev pub onlyInt : String → List ℕ
+onlyInt lines = ascii "budget\t1\nprim\t0\n" ++ ascii lines ++ ascii "root\t0\t+\n"
 
 -- what recheck makes of that table, not edited, and an old listing
 abbrev pub keeping : String → ℕ → Call
-keeping listing room = ofRecheck (sole "") (sole "") (ascii listing) room
+keeping listing room = ofRecheck (onlyInt "") (onlyInt "") (ascii listing) room
 
 abbrev pub callExamples : List CallExample
 callExamples =
@@ -126,14 +126,14 @@ callExamples =
     ∷ record { call = ofRecheck (emptyLines 65537) (ascii "prim\t0\n") [] lent; result = refused 2 0 }
     -- 10: "budget, n, or a name, pair, mark or root line differs", and before 11: the listing is empty
     ∷ record { call = ofRecheck (ascii "budget\t1\n") (ascii "budget\t2\n") [] lent; result = refused 10 0 }
-    ∷ record { call = ofRecheck (sole "") (sole "prim\t0\n") [] lent; result = refused 10 0 }
+    ∷ record { call = ofRecheck (onlyInt "") (onlyInt "prim\t0\n") [] lent; result = refused 10 0 }
     ∷ record { call = ofRecheck (ascii "budget\t1\nname\ta\n") (ascii "budget\t1\nname\tb\n") [] lent; result = refused 10 0 }
-    ∷ record { call = ofRecheck (sole "") (sole "pair\t0\t0\n") [] lent; result = refused 10 0 }
-    ∷ record { call = ofRecheck (sole "mark\t0\n") (sole "mark\t1\n") [] lent; result = refused 10 0 }
-    ∷ record { call = ofRecheck (sole "") (sole "root\t0\t-\n") [] lent; result = refused 10 0 }
+    ∷ record { call = ofRecheck (onlyInt "") (onlyInt "pair\t0\t0\n") [] lent; result = refused 10 0 }
+    ∷ record { call = ofRecheck (onlyInt "mark\t0\n") (onlyInt "mark\t1\n") [] lent; result = refused 10 0 }
+    ∷ record { call = ofRecheck (onlyInt "") (onlyInt "root\t0\t-\n") [] lent; result = refused 10 0 }
     -- the same with a listing that is in form
     ∷ record {
-      call = ofRecheck (sole "mark\t0\n") (sole "mark\t1\n") (ascii "answers\t1\nroot\t0\t+\t1\t1\t0\t0\t1\n0\tprim\t0\n") lent;
+      call = ofRecheck (onlyInt "mark\t0\n") (onlyInt "mark\t1\n") (ascii "answers\t1\nroot\t0\t+\t1\t1\t0\t0\t1\n0\tprim\t0\n") lent;
       result = refused 10 0;
     }
     -- 12: "the text to be written is longer than the lent output": 43 bytes with the first line, so that 43 suffice and 42 do not
@@ -167,7 +167,7 @@ callExamples =
     ∷ record { call = keeping "answers\t1\nroot\t0\t+\t1\t1\t0\t0\t1\n1\tprim\t0\n" lent; result = refused 11 3 }
     ∷ record { call = keeping "answers\t1\nroot\t0\t+\t1\t1\t0\t0\t1\n0\tlist\t0\n" lent; result = refused 11 3 }
     ∷ record {
-      call = ofRecheck (sole "") (sole "")
+      call = ofRecheck (onlyInt "") (onlyInt "")
           (ascii "answers\t1\nroot\t0\t+\t1\t1\t0\t0\t2\n0\tprim\t0\n1\tunion\t0" ++ times 128 (ascii ",0") ++ ascii "\n") lent;
       result = refused 11 4;
     }
@@ -192,8 +192,8 @@ callExamples =
     ∷ record { call = ofCanonRoot (ascii "budget\t1\nprim\t0\n") 0 0 28; result = written "root\t0\t+\t1\t1\t0\t0\t1\n0\tprim\t0\n" }
     ∷ record { call = ofCanonRoot (ascii "budget\t1\nprim\t0\n") 0 0 27; result = refused 12 0 }
     -- canon, and "A refused call prints `refused`, number, line". 12: 38 bytes
-    ∷ record { call = ofCanon (sole "") 38; result = written "answers\t1\nroot\t0\t+\t1\t1\t0\t0\t1\n0\tprim\t0\n" }
-    ∷ record { call = ofCanon (sole "") 37; result = refused 12 0 }
+    ∷ record { call = ofCanon (onlyInt "") 38; result = written "answers\t1\nroot\t0\t+\t1\t1\t0\t0\t1\n0\tprim\t0\n" }
+    ∷ record { call = ofCanon (onlyInt "") 37; result = refused 12 0 }
     ∷ record { call = canonReads (ascii "budget\t1\nfrozen\n"); result = written "refused\t5\t2\n" }
     -- 1: "a line is not in the form or order above, or no budget line"; "A missing budget line is told at the line where it should be"
     ∷ record { call = ofCanon [] lent; result = refused 1 1 }
