@@ -111,11 +111,19 @@ callExamples =
       result = accepted (ascii "redone\tredone\tredone\tkept\nanswers\t4\nroot\t0\t+\t1\t2\t0\t0\t1\n0\tprim\t1\nroot\t1\t+\t1\t2\t0\t0\t1\n0\tprim\t1\n"
           ++ ascii "root\t2\t+\t1\t1\t0\t0\t1\n0\tprim\t1\nrefused\t3\t+\t9\n");
     }
+    -- a dyn leads to the edit as a field does
+    ∷ record {
+      call = ofRecheck (ascii "budget\t1\nset\t-\t1\t0\t-\nprim\t0\nroot\t0\t+\n") (ascii "budget\t1\nset\t-\t1\t0\t-\nprim\t1\nroot\t0\t+\n")
+          (ascii "answers\t1\nrefused\t0\t+\t6\n") lent;
+      result = written "redone\nanswers\t1\nroot\t0\t+\t1\t2\t0\t0\t2\n0\tprim\t1\n1\tset\t-\t0\t0\t-\n";
+    }
     -- "With no roots that line is empty"
     ∷ record { call = recheckReads (ascii "budget\t1\nnext\nbudget\t1\nnext\nanswers\t0\n"); result = written "\nanswers\t0\n" }
     -- "A part left out for want of `next` is empty": the listing, then the new table
     ∷ record { call = recheckReads (ascii "budget\t1\nnext\nbudget\t1\n"); result = written "refused\t11\t1\n" }
     ∷ record { call = recheckReads (ascii "budget\t1\n"); result = written "refused\t1\t1\n" }
+    -- a line that only begins with `next` is no `next`
+    ∷ record { call = recheckReads (ascii "budget\t1\nnexts\n"); result = written "refused\t1\t2\n" }
     -- a last `next` without its line feed is no line, but a fault of the old table; a third one is a line of the listing
     ∷ record { call = recheckReads (ascii "budget\t1\nnext"); result = written "refused\t1\t2\n" }
     ∷ record { call = recheckReads (ascii "budget\t1\nnext\nbudget\t1\nnext\nanswers\t0\nnext\n"); result = written "refused\t11\t2\n" }
