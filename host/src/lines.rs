@@ -1,6 +1,24 @@
-//! A listing taken apart into the lines of each root.
+//! The lines of a listing, and those of each root.
 
 use std::collections::HashMap;
+
+use oracle::{listing, Root, RootAnswer};
+
+/// The first line of a listing.
+pub fn first_line(roots: usize) -> String {
+    format!("answers\t{roots}\n")
+}
+
+/// The line of a root that is refused.
+pub fn refused_root(root: Root, number: u32) -> String {
+    format!("refused\t{}\t{}\t{number}\n", root.id, root.sign())
+}
+
+/// The Rust's lines of a root.
+pub fn of_rust(root: &RootAnswer) -> Vec<u8> {
+    let listing = listing::write(std::slice::from_ref(root));
+    listing[first_line(1).len()..].to_vec()
+}
 
 /// The lines of each root, without the first line.
 pub fn blocks(listing: &[u8]) -> Vec<&[u8]> {

@@ -1,32 +1,30 @@
 //! The proved static library and the Rust text in one process: compared,
 //! fuzzed, taken to its edges, and timed.
+//!
+//! The modules lie in layers, and no module uses one that uses it:
+//!
+//! 1. `calls`, the library's calls and the scratch that is looked at after
+//!    each; `input`, what is given to them; `report`, what is printed and kept;
+//!    `limits` of a run and `lines` of a listing. None of them uses another.
+//! 2. `compare`, `fuzz`, `recheck` and `stack`, a command each.
+//! 3. `edges` and `bench`, a command each; they use recheck's model.
 
 mod bench;
-mod changes;
+mod calls;
 mod compare;
-mod draft;
 mod edges;
-mod edits;
-mod ffi;
 mod fuzz;
-mod join;
-mod kept;
-mod layout;
+mod input;
+mod limits;
 mod lines;
-mod model;
-mod old;
-mod processes;
 mod recheck;
-mod recheck_edges;
-#[path = "../../oracle/src/rng.rs"]
-mod rng;
-mod scratch;
+mod report;
 mod stack;
-mod touched;
-mod watch;
 
 use std::process::ExitCode;
 use std::thread;
+
+use report::Tally;
 
 const HELP: &str = "\
 host compare COUNT [SEED]   COUNT roots of random tables, ours beside the Rust's
@@ -41,20 +39,18 @@ host bench recheck          recheck's alone
 /// A caller's thread may have no more.
 const STACK: usize = 2 << 20;
 
-/// Checks passed and failed.
-type Tally = (u64, u64);
-
 fn main() -> ExitCode {
     let arguments: Vec<String> = std::env::args().skip(1).collect();
-    let Some((name, job)) = job(&arguments) else {
+    let arguments: Vec<&str> = arguments.iter().map(String::as_str).collect();
+    let Some(job) = job(&arguments) else {
         eprint!("{HELP}");
         return ExitCode::from(2);
     };
     let thread = thread::Builder::new().stack_size(STACK).spawn(job);
     let joined = thread.expect("a thread can be started").join();
-    let (passed, failed) = joined.unwrap_or((0, 1));
+    let Tally { passed, failed } = joined.unwrap_or(Tally::of(0, 1));
     if passed + failed > 0 {
-        println!("{name}: {passed} passed, {failed} failed");
+        println!("{}: {passed} passed, {failed} failed", arguments[0]);
     }
     match failed {
         0 => ExitCode::SUCCESS,
@@ -64,25 +60,25 @@ fn main() -> ExitCode {
 
 type Job = Box<dyn FnOnce() -> Tally + Send>;
 
-fn job(arguments: &[String]) -> Option<(String, Job)> {
-    let arguments: Vec<&str> = arguments.iter().map(String::as_str).collect();
-    let number = |text: &str| text.parse::<u64>().ok();
-    let job: Job = match arguments[..] {
-        ["compare", count] => counted(number(count)?, 0, compare::run),
-        ["compare", count, seed] => counted(number(count)?, number(seed)?, compare::run),
-        ["fuzz", count] => counted(number(count)?, 0, fuzz::run),
-        ["fuzz", count, seed] => counted(number(count)?, number(seed)?, fuzz::run),
-        ["recheck", count] => counted(number(count)?, 0, recheck::run),
-        ["recheck", count, seed] => counted(number(count)?, number(seed)?, recheck::run),
-        ["edges"] => Box::new(edges::run),
-        ["stack"] => Box::new(stack::run),
-        ["bench"] => Box::new(bench::run),
-        ["bench", "recheck"] => Box::new(bench::rechecked),
-        _ => return None,
-    };
-    Some((arguments[0].to_string(), job))
+fn job(arguments: &[&str]) -> Option<Job> {
+    match *arguments {
+        ["edges"] => Some(Box::new(edges::run)),
+        ["stack"] => Some(Box::new(stack::run)),
+        ["bench"] => Some(Box::new(bench::run)),
+        ["bench", "recheck"] => Some(Box::new(bench::rechecked)),
+        [name, count] => counted(name, count, "0"),
+        [name, count, seed] => counted(name, count, seed),
+        _ => None,
+    }
 }
 
-fn counted(count: u64, seed: u64, run: fn(u64, u64) -> Tally) -> Job {
-    Box::new(move || run(count, seed))
+fn counted(name: &str, count: &str, seed: &str) -> Option<Job> {
+    let run = match name {
+        "compare" => compare::run,
+        "fuzz" => fuzz::run,
+        "recheck" => recheck::run,
+        _ => return None,
+    };
+    let (count, seed) = (count.parse().ok()?, seed.parse().ok()?);
+    Some(Box::new(move || run(count, seed)))
 }

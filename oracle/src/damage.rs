@@ -206,6 +206,26 @@ fn change_field(
     }
 }
 
+/// Puts one of these texts in place of a field.
+fn put(
+    rng: &mut Rng,
+    line: &mut Vec<u8>,
+    wanted: fn(usize, &[u8]) -> bool,
+    texts: &[&'static [u8]],
+) {
+    let text = rng.pick(texts);
+    change_field(rng, line, wanted, |_, field| *field = text.to_vec());
+}
+
+/// Puts one of these texts into a field, at any place.
+fn put_in(rng: &mut Rng, line: &mut Vec<u8>, texts: &[&'static [u8]]) {
+    let text = rng.pick(texts);
+    change_field(rng, line, any_field, |rng, field| {
+        let place = rng.below(field.len() + 1);
+        field.splice(place..place, text.iter().copied());
+    });
+}
+
 fn any_field(_: usize, _: &[u8]) -> bool {
     true
 }
@@ -344,11 +364,7 @@ fn large_number(rng: &mut Rng, lines: &mut Lines, at: usize) {
 
 fn bad_list(rng: &mut Rng, lines: &mut Lines, at: usize) {
     let texts: &[&[u8]] = &[b",", b",,", b"-,", b",-", b";", b":", b" "];
-    let text = rng.pick(texts);
-    change_field(rng, &mut lines[at], any_field, |rng, field| {
-        let place = rng.below(field.len() + 1);
-        field.splice(place..place, text.iter().copied());
-    });
+    put_in(rng, &mut lines[at], texts);
 }
 
 fn is_first(index: usize, _: &[u8]) -> bool {
@@ -368,18 +384,12 @@ fn bad_set_field(rng: &mut Rng, lines: &mut Lines, at: usize) {
     let texts: &[&[u8]] = &[
         b"1", b"1:", b":1", b"1:1:1", b"1=1", b"-:1", b"1:-", b"01:1", b"1,1", b"0:0,-",
     ];
-    let text = rng.pick(texts);
-    change_field(rng, &mut lines[at], is_first, |_, field| {
-        *field = text.to_vec();
-    });
+    put(rng, &mut lines[at], is_first, texts);
 }
 
 fn bad_open(rng: &mut Rng, lines: &mut Lines, at: usize) {
     let texts: &[&[u8]] = &[b"2", b"00", b"01", b"-", b"", b"+", b"10"];
-    let text = rng.pick(texts);
-    change_field(rng, &mut lines[at], is_third, |_, field| {
-        *field = text.to_vec();
-    });
+    put(rng, &mut lines[at], is_third, texts);
 }
 
 fn disordered_keys(rng: &mut Rng, lines: &mut Lines, at: usize) {
@@ -390,42 +400,27 @@ fn disordered_keys(rng: &mut Rng, lines: &mut Lines, at: usize) {
         b"5:0,4:0,3:0",
         b"9:0,2:0",
     ];
-    let text = rng.pick(texts);
-    change_field(rng, &mut lines[at], is_first, |_, field| {
-        *field = text.to_vec();
-    });
+    put(rng, &mut lines[at], is_first, texts);
 }
 
 fn disordered_optional(rng: &mut Rng, lines: &mut Lines, at: usize) {
     let texts: &[&[u8]] = &[b"0,0", b"1,0", b"0,3,2", b"6,6", b"9,2"];
-    let text = rng.pick(texts);
-    change_field(rng, &mut lines[at], is_fourth, |_, field| {
-        *field = text.to_vec();
-    });
+    put(rng, &mut lines[at], is_fourth, texts);
 }
 
 fn far_key(rng: &mut Rng, lines: &mut Lines, at: usize) {
     let texts: &[&[u8]] = &[b"7:0", b"0:0,8:1", b"4294967295:0", b"6:0,7:99"];
-    let text = rng.pick(texts);
-    change_field(rng, &mut lines[at], is_first, |_, field| {
-        *field = text.to_vec();
-    });
+    put(rng, &mut lines[at], is_first, texts);
 }
 
 fn far_optional(rng: &mut Rng, lines: &mut Lines, at: usize) {
     let texts: &[&[u8]] = &[b"7", b"0,8", b"4294967295"];
-    let text = rng.pick(texts);
-    change_field(rng, &mut lines[at], is_fourth, |_, field| {
-        *field = text.to_vec();
-    });
+    put(rng, &mut lines[at], is_fourth, texts);
 }
 
 fn far_name(rng: &mut Rng, lines: &mut Lines, at: usize) {
     let texts: &[&[u8]] = &[b"7", b"8", b"4294967295"];
-    let text = rng.pick(texts);
-    change_field(rng, &mut lines[at], is_first, |_, field| {
-        *field = text.to_vec();
-    });
+    put(rng, &mut lines[at], is_first, texts);
 }
 
 fn far_id(rng: &mut Rng, lines: &mut Lines, at: usize) {
@@ -449,18 +444,12 @@ fn far_id(rng: &mut Rng, lines: &mut Lines, at: usize) {
 
 fn bad_code(rng: &mut Rng, lines: &mut Lines, at: usize) {
     let texts: &[&[u8]] = &[b"32", b"33", b"4294967295", b"031", b"-"];
-    let text = rng.pick(texts);
-    change_field(rng, &mut lines[at], is_first, |_, field| {
-        *field = text.to_vec();
-    });
+    put(rng, &mut lines[at], is_first, texts);
 }
 
 fn bad_sign(rng: &mut Rng, lines: &mut Lines, at: usize) {
     let texts: &[&[u8]] = &[b"", b"++", b"+-", b"p", b"0", b"=", b" +"];
-    let text = rng.pick(texts);
-    change_field(rng, &mut lines[at], is_second, |_, field| {
-        *field = text.to_vec();
-    });
+    put(rng, &mut lines[at], is_second, texts);
 }
 
 fn bad_escape(rng: &mut Rng, lines: &mut Lines, at: usize) {
@@ -468,19 +457,14 @@ fn bad_escape(rng: &mut Rng, lines: &mut Lines, at: usize) {
         b"\\", b"\\0", b"\\5C", b"\\1F", b"\\20", b"\\61", b"\\ff", b"\\80", b"\\g0", b"\\n",
         b"\\\\", b"\\x09", b"\\7e", b"\\5b",
     ];
-    let text = rng.pick(texts);
-    change_field(rng, &mut lines[at], any_field, |rng, field| {
-        let place = rng.below(field.len() + 1);
-        field.splice(place..place, text.iter().copied());
-    });
+    put_in(rng, &mut lines[at], texts);
 }
 
 fn raw_byte(rng: &mut Rng, lines: &mut Lines, at: usize) {
-    let byte = rng.pick(b"\x00\x01\x08\t\x0b\r\x1f\x7f");
-    change_field(rng, &mut lines[at], any_field, |rng, field| {
-        let place = rng.below(field.len() + 1);
-        field.insert(place, byte);
-    });
+    let texts: &[&[u8]] = &[
+        b"\x00", b"\x01", b"\x08", b"\t", b"\x0b", b"\r", b"\x1f", b"\x7f",
+    ];
+    put_in(rng, &mut lines[at], texts);
 }
 
 fn disordered_names(rng: &mut Rng, lines: &mut Lines, at: usize) {

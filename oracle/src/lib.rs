@@ -15,7 +15,7 @@ pub mod listing;
 mod probe;
 pub mod reader;
 pub mod records;
-mod rng;
+pub mod rng;
 #[cfg(text_at_hand)]
 mod run;
 #[cfg(text_at_hand)]

@@ -1,0 +1,25 @@
+//! Our time per root beside the Rust's on the same tables; recheck's beside
+//! canon's.
+
+mod beside;
+mod clock;
+mod parts;
+mod processes;
+mod touched;
+
+use crate::report::Tally;
+
+pub fn run() -> Tally {
+    beside::run();
+    println!();
+    rechecked()
+}
+
+/// recheck's part alone.
+pub fn rechecked() -> Tally {
+    // The tables are chosen by what the Rust answers.
+    timed::on_large_stack(touched::run);
+    println!();
+    processes::run();
+    Tally::default()
+}

@@ -1,0 +1,54 @@
+//! canon and canon_root.
+
+use pekonusit::{lengths, raw};
+
+use super::outcome::{of_any_call, outcome, refused, Outcome};
+use super::scratch::{Checked, Scratch, Slice};
+
+/// What both are lent, in this order.
+const SLICES: [Slice; 4] = [
+    ("draft", lengths::DRAFT),
+    ("table", lengths::TABLE),
+    ("arena", lengths::ARENA),
+    ("work", lengths::WORK),
+];
+
+/// canon and canon_root with scratch of their own.
+pub struct Canon {
+    pub scratch: Scratch<4>,
+}
+
+impl Canon {
+    pub fn new() -> Self {
+        let scratch = Scratch::new(SLICES);
+        Canon { scratch }
+    }
+
+    /// The listing of a table.
+    pub fn canon(&mut self, text: &[u8], out: &mut [u8]) -> Checked {
+        let call = |scratch: &mut Scratch<4>, out: &mut [u8]| canon(scratch, text, out);
+        self.scratch.checked(out, call, of_any_call)
+    }
+
+    /// The lines of one root; the sign is 0 for `+`.
+    pub fn canon_root(&mut self, text: &[u8], id: u32, sign: u32, out: &mut [u8]) -> Checked {
+        let call = |scratch: &mut Scratch<4>, out: &mut [u8]| {
+            let (draft, [table, arena, work]) = scratch.slices();
+            outcome(raw::canon_root(
+                text, id, sign, out, draft, table, arena, work,
+            ))
+        };
+        let may = |refusal| refusal == refused(3, 0) || of_any_call(refusal);
+        self.scratch.checked(out, call, may)
+    }
+
+    /// The call alone, for timing and for the stack.
+    pub fn bare(&mut self, text: &[u8], out: &mut [u8]) -> Outcome {
+        canon(&mut self.scratch, text, out)
+    }
+}
+
+fn canon(scratch: &mut Scratch<4>, text: &[u8], out: &mut [u8]) -> Outcome {
+    let (draft, [table, arena, work]) = scratch.slices();
+    outcome(raw::canon(text, out, draft, table, arena, work))
+}

@@ -1,0 +1,14 @@
+//! The calls of the proved library, with scratch that is looked at after each.
+
+mod canon;
+mod outcome;
+mod recheck;
+mod scratch;
+
+pub use canon::Canon;
+pub use outcome::{refused, Outcome, Refused};
+pub use recheck::{Input, Recheck};
+pub use scratch::Checked;
+
+/// What the programs lend as output.
+pub const OUTPUT: usize = 65_536;

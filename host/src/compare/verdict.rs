@@ -1,0 +1,81 @@
+//! Our lines of a root beside the Rust's answer.
+
+use oracle::{Answer, RootAnswer};
+
+use crate::{limits, lines};
+
+/// What a root's comparison came to, in the order of the table's columns.
+#[derive(Clone, Copy, PartialEq, Eq, PartialOrd, Ord)]
+pub enum Verdict {
+    /// The same bytes.
+    Same,
+    /// The Rust's sorted mark is 1: the same bytes all the same, the same
+    /// types but for the order of members, or something else.
+    SortedSame,
+    SortedOrder,
+    SortedElse,
+    /// The Rust would not return, or nobody would wait for it.
+    Endless,
+    TooLong,
+    /// Refused here where the Rust's sizes pass the limit.
+    Limit6,
+    Limit7,
+    Limit8,
+    Limit9,
+    Differs,
+}
+
+pub const VERDICTS: [(Verdict, &str); 11] = [
+    (Verdict::Same, "same"),
+    (Verdict::SortedSame, "sorted, same"),
+    (Verdict::SortedOrder, "sorted, order"),
+    (Verdict::SortedElse, "sorted, else"),
+    (Verdict::Endless, "endless"),
+    (Verdict::TooLong, "too long"),
+    (Verdict::Limit6, "limit 6"),
+    (Verdict::Limit7, "limit 7"),
+    (Verdict::Limit8, "limit 8"),
+    (Verdict::Limit9, "limit 9"),
+    (Verdict::Differs, "DIFFERS"),
+];
+
+pub fn judge(block: &[u8], root: &RootAnswer) -> Verdict {
+    if let Some(number) = lines::root_refusal(block) {
+        return judge_limit(number, block, root);
+    }
+    // The Rust may store a Bottom that is none of the rules' nodes.
+    let within = limits::within(root.measures, limits::NODES + 1, limits::CELLS);
+    match &root.answer {
+        Answer::Endless => Verdict::Endless,
+        Answer::TooLong => Verdict::TooLong,
+        // What passes a limit must be refused here.
+        Answer::Shown(_) if !within => Verdict::Differs,
+        Answer::Shown(shown) => {
+            let theirs = lines::of_rust(root);
+            match (block == theirs, shown.sorted) {
+                (true, false) => Verdict::Same,
+                (false, false) => Verdict::Differs,
+                (true, true) => Verdict::SortedSame,
+                (false, true) if lines::head(block).get(5) != Some(&"1") => Verdict::Differs,
+                (false, true) if lines::same_but_order(block, &theirs) => Verdict::SortedOrder,
+                (false, true) => Verdict::SortedElse,
+            }
+        }
+    }
+}
+
+/// Keys and lists are the same in the Rust; nodes and cells are looked at from
+/// a little below.
+fn judge_limit(number: u32, block: &[u8], root: &RootAnswer) -> Verdict {
+    if block != lines::refused_root(root.root, number).as_bytes() {
+        return Verdict::Differs;
+    }
+    let sizes = root.measures;
+    match number {
+        6 if sizes.keys > limits::KEYS => Verdict::Limit6,
+        7 if sizes.list > limits::MEMBERS => Verdict::Limit7,
+        8 if sizes.nodes > limits::NEAR_NODES => Verdict::Limit8,
+        9 if sizes.cells > limits::NEAR_CELLS => Verdict::Limit9,
+        _ => Verdict::Differs,
+    }
+}

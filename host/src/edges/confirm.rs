@@ -1,0 +1,73 @@
+//! What is expected, held against the second reader of tables and against the
+//! Rust.
+
+use oracle::{reader, Answer, Measures, RootAnswer};
+
+use super::check::same;
+use super::edge::{Edge, Expect};
+use crate::calls::{refused, Refused};
+use crate::limits::{lists_within, within, CELLS, KEYS, MEMBERS, NODES};
+use crate::lines;
+
+/// What the second reader and the Rust say of what is expected.
+pub fn confirm(edge: &Edge) -> Result<(), String> {
+    let read = reader::read(&edge.text);
+    if let Expect::Refused(number @ 1..=5, line) = edge.expect {
+        let theirs = read.err().map(Refused::from);
+        return same(theirs, Some(refused(number, line)));
+    }
+    let table = read.map_err(|r| format!("the second reader: {r:?}"))?;
+    let Ok(theirs) = oracle::answers_of(&table) else {
+        return Ok(());
+    };
+    match &edge.expect {
+        Expect::Refused(..) => Ok(()),
+        Expect::Listing(listing) if has_refusal(listing) => Ok(()),
+        Expect::Listing(listing) => match oracle::listing::write(&theirs) == *listing {
+            true => Ok(()),
+            false => Err("the Rust's listing is another".to_string()),
+        },
+        Expect::Roots(heads) => {
+            for (head, root) in heads.iter().zip(&theirs) {
+                confirm_root(head, root)?;
+            }
+            same(heads.len(), theirs.len())
+        }
+    }
+}
+
+/// Of a root, which the Rust never refuses.
+fn has_refusal(listing: &[u8]) -> bool {
+    let blocks = lines::blocks(listing);
+    let mut numbers = blocks.into_iter().filter_map(lines::root_refusal);
+    numbers.next().is_some()
+}
+
+fn confirm_root(head: &str, root: &RootAnswer) -> Result<(), String> {
+    let sizes = root.measures;
+    if let Some(number) = lines::root_refusal(head.as_bytes()) {
+        return match passes(sizes, number) {
+            true => Ok(()),
+            false => Err(format!("the Rust's sizes are {sizes:?}")),
+        };
+    }
+    if !matches!(root.answer, Answer::Shown(_)) {
+        return Err("the Rust does not return".to_string());
+    }
+    let theirs = lines::of_rust(root);
+    let theirs = lines::head(&theirs).join("\t");
+    match within(sizes, NODES, CELLS) && theirs == head {
+        true => Ok(()),
+        false => Err(format!("the Rust: {theirs}, {sizes:?}")),
+    }
+}
+
+/// Whether the Rust's sizes pass the limit of a number, and none before it.
+fn passes(sizes: Measures, number: u32) -> bool {
+    match number {
+        6 => sizes.keys > KEYS,
+        7 => sizes.list > MEMBERS && sizes.keys <= KEYS,
+        8 => sizes.nodes > NODES && lists_within(sizes),
+        _ => sizes.cells > CELLS && lists_within(sizes),
+    }
+}

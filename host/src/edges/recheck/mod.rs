@@ -1,0 +1,26 @@
+//! recheck at its edges. What is expected is written down by hand, and held
+//! against the model of recheck too.
+
+mod edge;
+mod lengths;
+mod listing;
+mod tables;
+
+use crate::calls::Recheck;
+use crate::report::Tally;
+use edge::Edges;
+
+pub fn run(tally: &mut Tally) {
+    let mut edges = Edges {
+        recheck: Recheck::new(),
+        tally,
+    };
+    listing::first_lines(&mut edges);
+    listing::root_lines(&mut edges);
+    listing::node_lines(&mut edges);
+    listing::numbers_of_nodes(&mut edges);
+    tables::differing_lines(&mut edges);
+    tables::orders(&mut edges);
+    lengths::listings(&mut edges);
+    lengths::short_scratch(&mut edges);
+}

@@ -1,0 +1,7 @@
+//! What is given to the calls: tables and listings, made and changed.
+
+pub mod changes;
+pub mod draft;
+pub mod edits;
+pub mod join;
+pub mod large;

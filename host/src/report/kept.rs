@@ -1,0 +1,18 @@
+//! Tables that something is wrong with are kept under host/target, so that
+//! they can be looked at.
+
+use std::fs;
+use std::path::Path;
+
+/// Writes a table and tells its file, seen from the repository's root.
+pub fn keep(folder: &str, name: &str, text: &[u8]) -> String {
+    let here = Path::new(env!("CARGO_MANIFEST_DIR"));
+    let folder = format!("target/{folder}");
+    let name = name.replace(' ', "-");
+    let written = fs::create_dir_all(here.join(&folder))
+        .and_then(|()| fs::write(here.join(&folder).join(&name), text));
+    match written {
+        Ok(()) => format!("host/{folder}/{name}"),
+        Err(fault) => format!("a file that could not be written ({fault})"),
+    }
+}
