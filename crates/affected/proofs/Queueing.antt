@@ -20,16 +20,15 @@ use Rattle.rules.specs.Ceilings.{mostEntries}
 use Rattle.rules.specs.Members.{addAll}
 use Rattle.rules.specs.Table.{Table}
 use Rattle.rules.specs.Calls.{differs}
-use Rattle.laws.proofs.Filtering.{under-both}
+use Rattle.laws.proofs.Filtering.{under-both, under-front, under-back}
+use Rattle.laws.proofs.Containing.{new-itself, new-other}
 use Rattle.text.specs.Reads.{span}
 use Rattle.storage.specs.declared.given.Canon.{Canon}
 use Rattle.storage.specs.Helds.{HeldList, HoldsIf, only}
-use Rattle.storage.proofs.Sifted.{new-itself, new-other}
 use Rattle.storage.proofs.HeldIds.{held-list, held-ext, if-kept}
-use Rattle.affected.specs.Compares.{SameRow}
-use Rattle.affected.specs.Links.{Link, sources, Chained, Linked}
+use Rattle.compare.specs.Compares.{SameRow}
+use Rattle.links.specs.Links.{Link, sources, Chained, Linked}
 use Rattle.affected.specs.Reaches.{Queued, Marks, Compared, MarksIf, differing, MarksDiffering, MarksBefore}
-use Rattle.affected.proofs.Linking.{under-left, under-right}
 
 -- how many of the first n ids are not in got
 abbrev free : List ℕ → ℕ → ℕ
@@ -85,21 +84,21 @@ pub adds-both : (got xs ys : List ℕ) → addAll got (xs ++ ys) ≡ addAll (add
 adds-both got [] ys = refl
 adds-both got (x ∷ xs) ys = adds-both (addNew got x) xs ys
 
-pub queued-list : {count q : ℕ} {work xs ys : List ℕ} → xs ≡ ys → Queued count work q xs → Queued count work q ys
+queued-list : {count q : ℕ} {work xs ys : List ℕ} → xs ≡ ys → Queued count work q xs → Queued count work q ys
 queued-list {count} {q} {work} e h = subst (λ (l : List ℕ). Queued count work q l) e h
 
-pub marks-none : {work : List ℕ} {q : ℕ} → Marks work q [] work q
+marks-none : {work : List ℕ} {q : ℕ} → Marks work q [] work q
 marks-none = record { kept = λ k lt. refl; is = λ {count} {xs} h u. queued-list (sym (append-nil xs)) h }
 
-pub marks-both : {work w work′ : List ℕ} {q m r : ℕ} (ys zs : List ℕ) → Marks work q ys w m → Marks w m zs work′ r → Marks work q (ys ++ zs) work′ r
+marks-both : {work w work′ : List ℕ} {q m r : ℕ} (ys zs : List ℕ) → Marks work q ys w m → Marks w m zs work′ r → Marks work q (ys ++ zs) work′ r
 marks-both ys zs a b =
     record {
       kept = λ k lt. b .kept k lt ∙ a .kept k lt;
       is = λ {count} {xs} h u.
-          queued-list (append-assoc xs ys zs) (b .is (a .is h (under-left count ys zs u)) (under-right count ys zs u));
+          queued-list (append-assoc xs ys zs) (b .is (a .is h (under-front count ys zs u)) (under-back count ys zs u));
     }
 
-pub marks-list : {work work′ : List ℕ} {q r : ℕ} {ys zs : List ℕ} → ys ≡ zs → Marks work q ys work′ r → Marks work q zs work′ r
+marks-list : {work work′ : List ℕ} {q r : ℕ} {ys zs : List ℕ} → ys ≡ zs → Marks work q ys work′ r → Marks work q zs work′ r
 marks-list {work} {work′} {q} {r} e h = subst (λ (l : List ℕ). Marks work q l work′ r) e h
 
 flag-true : (b : Bool) → (flag b ≡ 0 → ⊥) → b ≡ true

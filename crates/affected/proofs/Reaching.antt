@@ -15,6 +15,7 @@ use Rattle.cells.specs.Part.{run, cell, if}
 use Rattle.cells.specs.Clears.{Clears}
 use Rattle.cells.specs.Placed.{Under}
 use Rattle.cells.proofs.Holding.{holds-at}
+use Rattle.cells.proofs.Choices.{true-false}
 use Rattle.layout.specs.Layout.{headsAt, reachedAt, queueAt, workLength, redoneAt}
 use Rattle.rules.specs.Plain.{filter, contains, flag, addNew}
 use Rattle.rules.specs.Ceilings.{mostEntries}
@@ -23,22 +24,16 @@ use Rattle.rules.specs.Table.{Root, Table, rootOf, kids}
 use Rattle.rules.specs.Canonicalizer.{Reader, readerOf}
 use Rattle.rules.specs.Calls.{differs, redone}
 use Rattle.rules.specs.Chains.{Chain, here, onward, MeetsDifference}
-use Rattle.laws.proofs.Storing.{true-false}
 use Rattle.laws.proofs.Chains.{redone-flag}
 use Rattle.storage.specs.declared.given.Canon.{Canon}
-use Rattle.storage.proofs.Sifted.{adds-under, new-itself, new-other}
 use Rattle.storage.proofs.HeldIds.{held-none}
-use Rattle.laws.proofs.Filtering.{under-at, filter-under}
-use Rattle.affected.specs.Links.{Link, linked, linksOf, sources, Linked, LinksAll}
+use Rattle.laws.proofs.Filtering.{under-at, filter-under, under-added}
+use Rattle.laws.proofs.Containing.{new-itself, new-other, contains-at}
+use Rattle.links.specs.Links.{Link, linked, linksOf, sources, Linked, LinksAll}
 use Rattle.affected.specs.Reaches.{Queued, differing, MarksDiffering, MarksBefore, Leads, there, along, Tells, Spreads, MarksReaching}
 use Rattle.affected.specs.Reaches.{FlagsRoots, FlagsRedone}
-use Rattle.affected.proofs.Linking.{linked-ext}
+use Rattle.links.proofs.Linking.{linked-ext}
 use Rattle.affected.proofs.Queueing.{added-few, adds-both}
-
--- what is contained, and where
-yes-anyway : (b : Bool) → if b (λ _. true) (λ _. true) ≡ true
-yes-anyway true = refl
-yes-anyway false = refl
 
 -- the place of v in xs
 record Place (v : ℕ) (xs : List ℕ) : Type 0 where
@@ -53,12 +48,6 @@ contains-place v (x ∷ xs) e = turn (eqb v x) refl e (contains-place v xs)
     turn : (b : Bool) → eqb v x ≡ b → if b (λ _. true) (λ _. contains xs v) ≡ true → (contains xs v ≡ true → Place v xs) → Place v (x ∷ xs)
     turn true f h below = record { place = 0; within = omega arith; is = sym (eqb-true v x f) }
     turn false f h below = let p = below h in let lt = p .within in record { place = suc (p .place); within = omega arith; is = p .is }
-
-contains-at : (xs : List ℕ) (i : ℕ) → i < length xs → contains xs (getD xs i 0) ≡ true
-contains-at [] i lt = absurd (omega arith)
-contains-at (x ∷ xs) zero lt = ap (λ (b : Bool). if b (λ _. true) (λ _. contains xs x)) (eq-eqb x x refl)
-contains-at (x ∷ xs) (suc i) lt =
-    ap (λ (b : Bool). if (eqb (getD xs i 0) x) (λ _. true) (λ _. b)) (contains-at xs i (omega arith)) ∙ yes-anyway (eqb (getD xs i 0) x)
 
 -- what is added is contained, with what there was
 module _ (v : ℕ) where
@@ -112,7 +101,7 @@ module _ (got xs : List ℕ) where
 pub record SpreadAt (count : ℕ) (es : List Link) (xs work : List ℕ) (q i : ℕ) : Type 0 where
   pub got : List ℕ
   pub queued : Queued count work q got
-  pub upto : i ≤ q
+  upto : i ≤ q
   pub since : (x : ℕ) → List·Memᴰ x xs → List·Memᴰ x got
   pub lead : (x : ℕ) → List·Memᴰ x got → Leads es xs x
   pub done : (j : ℕ) → j < i → (x : ℕ) → List·Memᴰ x (sources es (getD (addAll [] got) j 0)) → List·Memᴰ x got
@@ -171,7 +160,7 @@ module _ {work₀ : List ℕ} {n count q₀ : ℕ} where
       known =
           let z = size in
           let e = item in
-          let u = under-at count (addAll [] old) i (adds-under count [] old tt (was .queued .known)) (omega arith) in
+          let u = under-at count (addAll [] old) i (under-added count [] old tt (was .queued .known)) (omega arith) in
           omega arith
 
       queue : Queued count w m (old ++ sources es y)

@@ -1,3 +1,1 @@
-pub mod Compares
-pub mod Links
 pub mod Reaches

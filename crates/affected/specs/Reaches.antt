@@ -1,4 +1,4 @@
--- Which entries are reached backwards from those that differ, and what the functions of reach.rt that mark them ensure.
+-- Which entries are reached backwards from those that differ, and what the functions that mark them ensure.
 use mathlib.Core.Path.{_≡_}
 use mathlib.Core.Logic.{_⊎_}
 use Prim.Native.Nat.{ℕ, _+_, _≤_, _<_}
@@ -18,7 +18,7 @@ use Rattle.text.specs.Reads.{span}
 use Rattle.storage.specs.declared.given.Canon.{Canon}
 use Rattle.storage.specs.Passes.{Reads}
 use Rattle.storage.specs.Helds.{HeldList, only}
-use Rattle.affected.specs.Links.{Link, sources, Linked}
+use Rattle.links.specs.Links.{Link, sources, Linked}
 
 -- the queue holds each of xs once, q ids in all, and just these are marked
 pub record Queued (count : ℕ) (work : List ℕ) (q : ℕ) (xs : List ℕ) : Type 0 where

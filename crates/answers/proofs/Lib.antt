@@ -1,4 +1,6 @@
 -- What callers' proofs cite.
-pub mod Promises
+pub mod Delivered
 pub mod Bounds
 pub mod Running
+pub mod Mixing
+pub mod Asking

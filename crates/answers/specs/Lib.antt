@@ -1,2 +1,3 @@
-pub mod Outcomes
 pub mod Runs
+pub mod Mixes
+pub mod Asks

@@ -1,3 +1,4 @@
-// What the calls share: what a call comes to, and the lines of a table's roots.
-pub mod outcome;
+// What the calls share: the lines of a table's roots, and what is asked of a table, brought to the output.
+pub mod asked;
+pub mod mixed;
 pub mod roots;

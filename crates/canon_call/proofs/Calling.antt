@@ -1,17 +1,18 @@
 -- Each way out of canon and canon_root comes to what the rules say. Assumes nothing.
 use mathlib.Core.Path.{_≡_, refl, sym, ap, subst, _∙_}
 use mathlib.Core.Bool.{Bool, true, false}
-use Prim.Native.Nat.{ℕ, _≤_, _<_}
+use Prim.Native.Nat.{ℕ}
 use native.Mathlib.Omega.{arith}
 use mathlib.Core.List.{List}
 use lib.ListN.{length}
 use lib.Dec.{leb}
 use borrow.Author.Tests.{leb-true, leb-false, lt-ltb, le-ltb}
 use Rattle.cells.specs.Clears.{Clears}
-use Rattle.layout.specs.Layout.{rowsAt}
-use Rattle.rules.specs.Table.{Result, refused, then, tableOf}
+use Rattle.layout.specs.Layout.{rowsAt, arenaLength}
+use Rattle.rules.specs.Table.{Result, accepted, refused, tableOf}
 use Rattle.rules.specs.Table as rules
 use Rattle.rules.specs.Canonicalizer.{firstPass}
+use Rattle.rules.specs.Listing.{rootText, listingText}
 use Rattle.rules.specs.Calls.{fits, canon, canonRoot, leaves, unlessShort}
 use Rattle.table.specs.declared.Table.{Table}
 use Rattle.table.specs.declared.Answer.{Answer}
@@ -19,130 +20,109 @@ use Rattle.table.specs.declared.Answer.the-variants.{Accepted, Refused as Table
 use Rattle.table.specs.Rows.{tableFrom, ReadInto}
 use Rattle.prepare.specs.declared.Prepared.{Prepared}
 use Rattle.prepare.specs.Prepares.{Prepares}
-use Rattle.lang_check.specs.Roots.{LentTo}
-use Rattle.answers.specs.Outcomes.{Short, Copies, Says}
-use Rattle.answers.specs.Runs.{Running, WritesRoot, WritesRoots, Fresh}
-use Rattle.answers.specs.declared.outcome.Outcome.{Outcome}
-use Rattle.answers.specs.declared.outcome.Outcome.the-variants.{Written, Refused}
-use Rattle.answers.proofs.Promises.{long-enough, too-long, written-anew, copied-out, refused-read, accepted-read}
-use Rattle.answers.proofs.Running.{running-on, text-written, fresh-read, entries-many, fresh-prepared}
-use Rattle.canon_call.specs.declared.Asked.{Asked}
-use Rattle.canon_call.specs.declared.Asked.the-variants.{All, Root}
-use Rattle.canon_call.specs.Called.{askedText, askedOf, callOf, noEntry, IsNoEntry, WritesAsked, Delivers, Lists, ListsAsked, Answers}
-
--- each way out of `write_asked`
-module _ {table arena work o table′ o′ : List ℕ} {g : Prepared} {asked : Asked} {r : ℕ} where
-  pub all-asked : asked ≡ All → WritesRoots table g arena work o table′ o′ r → WritesAsked table g arena work asked o table′ o′ r
-  all-asked e w = subst (λ (a : Asked). WritesAsked table g arena work a o table′ o′ r) (sym e) (record { is = λ u h. w .is u; kept = w .kept })
-
-  pub root-asked : {id sign : ℕ} → asked ≡ Root id sign → WritesRoot table g arena work 0 id sign o table′ o′ r
-      → WritesAsked table g arena work asked o table′ o′ r
-  root-asked {id} {sign} e w =
-      subst (λ (a : Asked). WritesAsked table g arena work a o table′ o′ r) (sym e)
-      (record {
-        is = λ {T} u h. let a = w .is u (leb-false (g .canon .count) id h) in text-written (a .wrote) (omega (arith, a .short));
-        kept = w .kept;
-      })
-
--- each way out of `deliver`
-module _ {out draft table arena work : List ℕ} {g : Prepared} {asked : Asked} {size : ℕ} where
-  pub deliver-none : length out < size → Delivers out draft table g arena work size asked out (Refused 12 0)
-  deliver-none h = record { is = λ {T} u k w l. too-long (askedText T asked) out (w .size) h }
-
-  pub deliver-anew : {out′ table′ : List ℕ} {r : ℕ} → size ≤ length out → WritesAsked table g arena work asked out table′ out′ r
-      → Delivers out draft table g arena work size asked out′ (Written size)
-  deliver-anew h a = record { is = λ {T} u k w l. written-anew (askedText T asked) out (w .size) h (a .is u k) }
-
-  pub deliver-copy : {out′ : List ℕ} → size ≤ length out → size ≤ length draft → Copies out draft size out′
-      → Delivers out draft table g arena work size asked out′ (Written size)
-  deliver-copy h d c = record { is = λ {T} u k w l. copied-out (askedText T asked) out w h d l c }
-
--- what `list` comes to: prepared, written into the draft, and brought to the output
-pub listed : {out draft table arena work table₁ draft₂ table₂ arena₂ work₂ out′ : List ℕ} {t : Table} {g : Prepared} {asked : Asked} {size : ℕ} {r : Outcome}
-    → Prepares table t table₁ g → length table₁ ≡ length table → WritesAsked table₁ g arena work asked draft table₂ draft₂ size
-    → length draft₂ ≡ length draft → length arena₂ ≡ length arena → length work₂ ≡ length work
-    → Delivers out draft₂ table₂ g arena₂ work₂ size asked out′ r → Lists out table t arena work asked out′ r
-unfolding firstPass
-listed {out} {draft} {table} {arena} {work} {table₁} {draft₂} {table₂} {arena₂} {work₂} {out′} {t} {g} {asked} {size} {r} p l w ld la lw d = record {
-  is = λ {T} f h.
-      let u : Running T g table₁ arena work = fresh-prepared f p l in
-      let count : t .entries ≡ g .canon .count = sym (entries-many f) ∙ u .prepared .knows .count in
-      let k : noEntry (g .canon .count) asked ≡ false = subst (λ (n : ℕ). noEntry n asked ≡ false) count h in
-      d .is (running-on u (w .kept u) la lw) k (w .is u k) ld;
-}
+use Rattle.outcomes.specs.Outcomes.{Short, Says, Wiped}
+use Rattle.answers.specs.Runs.{Running, Fresh}
+use Rattle.answers.specs.Asks.{AskedText, Delivers}
+use Rattle.outcomes.specs.declared.Outcome.{Outcome}
+use Rattle.outcomes.specs.declared.Outcome.the-variants.{Refused}
+use Rattle.answers.specs.declared.asked.Asked.{Asked}
+use Rattle.answers.specs.declared.asked.Asked.the-variants.{All, Root, Mixed}
+use Rattle.outcomes.proofs.Promises.{long-enough, says-as, refused-as, called}
+use Rattle.answers.proofs.Delivered.{refused-read, accepted-read}
+use Rattle.answers.proofs.Running.{fresh-read, entries-many, fresh-prepared}
+use Rattle.canon_call.specs.Called.{noEntry, IsNoEntry, CallOf, Answers, Calls}
 
 -- each way out of `is_no_entry`
-pub all-known : {t : Table} {asked : Asked} → asked ≡ All → IsNoEntry t asked false
-all-known {t} e = record { is = sym (ap (noEntry (t .entries)) e) }
+module _ {t : Table} {asked : Asked} where
+  pub all-known : asked ≡ All → IsNoEntry t asked false
+  all-known e = record { is = sym (ap (noEntry (t .entries)) e) }
 
-pub root-known : {t : Table} {asked : Asked} {id sign : ℕ} {b : Bool} → asked ≡ Root id sign → b ≡ leb (t .entries) id → IsNoEntry t asked b
-root-known {t} e h = record { is = h ∙ sym (ap (noEntry (t .entries)) e) }
+  pub mixed-known : asked ≡ Mixed → IsNoEntry t asked false
+  mixed-known e = record { is = sym (ap (noEntry (t .entries)) e) }
 
--- what is asked, by whether there is such an entry
-asked-none : (T : rules.Table) (asked : Asked) (room : ℕ) → noEntry (length (T .entries)) asked ≡ true → askedOf T asked room ≡ refused 3 0
-asked-none T All room h = absurd (let z : _≡_ {A = ℕ} 0 1 = cc in omega arith)
-asked-none T (Root id s) room h = simp (le-ltb id (length (T .entries)) (leb-true (length (T .entries)) id h))
+  pub root-known : {id sign : ℕ} {b : Bool} → asked ≡ Root id sign → b ≡ leb (t .entries) id → IsNoEntry t asked b
+  root-known e h = record { is = h ∙ sym (ap (noEntry (t .entries)) e) }
 
-asked-some : (T : rules.Table) (asked : Asked) (room : ℕ) → noEntry (length (T .entries)) asked ≡ false → askedOf T asked room ≡ fits room (askedText T asked)
-asked-some T All room h = refl
-asked-some T (Root id s) room h = simp (lt-ltb id (length (T .entries)) (leb-false (length (T .entries)) id h))
+-- what is asked of a text that is refused
+refused-by : (text : List ℕ) (room : ℕ) (asked : Asked) {x : Result (List ℕ)} {k l : ℕ} → tableOf text ≡ refused k l → CallOf asked text room x → x ≡ refused k l
+unfolding canon canonRoot
+refused-by text room All e c = c ∙ simp e
+refused-by text room (Root id s) e c = c ∙ simp e
+refused-by text room Mixed e c = absurd c
+
+-- and of a table that was accepted: 3 for a root that it does not have, and else this text, if it fits
+record Texted (room : ℕ) (T : rules.Table) (listing old : List ℕ) (g : Prepared) (asked : Asked) (x : Result (List ℕ)) : Type 0 where
+  pub t : List ℕ
+  pub asks : AskedText T listing old g asked t
+  pub is : x ≡ fits room t
+
+module _ (text : List ℕ) (room : ℕ) (T : rules.Table) (read : tableOf text ≡ accepted T) where
+  asked-none : (asked : Asked) {x : Result (List ℕ)} → noEntry (length (T .entries)) asked ≡ true → CallOf asked text room x → x ≡ refused 3 0
+  unfolding canonRoot
+  asked-none All h c = absurd (let z : _≡_ {A = ℕ} 0 1 = cc in omega arith)
+  asked-none (Root id s) h c = c ∙ simp (read, le-ltb id (length (T .entries)) (leb-true (length (T .entries)) id h))
+  asked-none Mixed h c = absurd c
+
+  asked-some : (listing old : List ℕ) (g : Prepared) (asked : Asked) {x : Result (List ℕ)} → length (T .entries) ≡ g .canon .count
+      → noEntry (length (T .entries)) asked ≡ false → CallOf asked text room x → Texted room T listing old g asked x
+  unfolding canon canonRoot
+  asked-some listing old g All n h c = record { t = listingText T; asks = refl; is = c ∙ simp read }
+  asked-some listing old g (Root id s) n h c =
+      let lt = leb-false (length (T .entries)) id h in
+      record { t = rootText T id s; asks = (omega arith, refl); is = c ∙ simp (read, lt-ltb id (length (T .entries)) lt) }
+  asked-some listing old g Mixed n h c = absurd c
+
+-- a table that was read behind facts that were cleared, where no scratch is short
+fresh-of : {text table arena work table₁ table₂ : List ℕ} {a : Answer} {t : Table} {d : ℕ} {b : Bool}
+    → Short d (length table) (length arena) arenaLength (length work) b → b ≡ false → Clears table 0 rowsAt table₁ → length table₁ ≡ length table
+    → ReadInto text table₁ table₂ a → a ≡ Accepted t → Fresh (rules.fromSections (tableFrom t table₂)) t table₂ arena work
+fresh-of h e c l q f = let n = long-enough h e in fresh-read c l q f (record { table = n .0; arena = n .1; work = n .2 })
 
 known-by : {T : rules.Table} {t : Table} {table arena work : List ℕ} {asked : Asked} {b c : Bool} → IsNoEntry t asked b → Fresh T t table arena work
     → b ≡ c → noEntry (length (T .entries)) asked ≡ c
 known-by {asked = asked} h f e = ap (λ (n : ℕ). noEntry n asked) (entries-many f) ∙ sym (h .is) ∙ e
 
--- each way out of `list_asked`
-module _ {out table arena work : List ℕ} {t : Table} {asked : Asked} {b : Bool} (h : IsNoEntry t asked b) where
-  pub no-entry : b ≡ true → ListsAsked out table t arena work asked out (Refused 3 0)
-  no-entry e = record {
-    is = λ {T} f.
-        subst (λ (x : Result (List ℕ)). Says (leaves out x) out (Refused 3 0)) (sym (asked-none T asked (length out) (known-by h f e)))
-        (record { outcome = refl; output = refl });
-  }
-
-  pub an-entry : {out′ : List ℕ} {r : Outcome} → b ≡ false → Lists out table t arena work asked out′ r → ListsAsked out table t arena work asked out′ r
-  an-entry {out′} {r} e l = record {
-    is = λ {T} f.
-        subst (λ (x : Result (List ℕ)). Says (leaves out x) out′ r) (sym (asked-some T asked (length out) (known-by h f e))) (l .is f (sym (h .is) ∙ e));
-  }
-
--- what is asked of a text is asked of its table
-call-then : (asked : Asked) (text : List ℕ) (room : ℕ) → callOf asked text room ≡ then (tableOf text) (λ (T : rules.Table). askedOf T asked room)
-unfolding canon canonRoot
-call-then All text room = refl
-call-then (Root id s) text room = refl
-
 -- each way out of `answer`; b is what the test for a short scratch said
-module _ {text out draft table arena work : List ℕ} {asked : Asked} {b : Bool} (h : Short (length draft) (length table) (length arena) (length work) b) where
-  pub short-answer : b ≡ true → Answers text asked out draft table arena work out (Refused 20 0)
-  short-answer e = record {
-    is = subst (λ (x : Bool). Says (leaves out (unlessShort x (callOf asked text (length out)))) out (Refused 20 0)) (sym e ∙ h .is)
-        (record { outcome = refl; output = refl });
-  }
-
-  answer-as : {out′ : List ℕ} {r : Outcome} (x : Result (List ℕ)) → b ≡ false → callOf asked text (length out) ≡ x → Says (leaves out x) out′ r
+module _ {text out draft table arena work : List ℕ} {asked : Asked} {b : Bool}
+    (h : Short (length draft) (length table) (length arena) arenaLength (length work) b) where
+  answer-by : {out′ : List ℕ} {r : Outcome} (c : Bool) → b ≡ c
+      → ((x : Result (List ℕ)) → CallOf asked text (length out) x → Says (leaves out (unlessShort c x)) out′ r)
       → Answers text asked out draft table arena work out′ r
-  answer-as {out′} {r} x e f s = record {
-    is = subst (λ (y : Bool). Says (leaves out (unlessShort y (callOf asked text (length out)))) out′ r) (sym e ∙ h .is)
-        (subst (λ (y : Result (List ℕ)). Says (leaves out y) out′ r) (sym f) s);
-  }
+  answer-by {out′} {r} c e s = record { is = λ x k. subst (λ (y : Bool). Says (leaves out (unlessShort y x)) out′ r) (sym e ∙ h .is) (s x k) }
 
-  pub refused-answer : {w w′ : List ℕ} {a : Answer} {k l : ℕ} → b ≡ false → ReadInto text w w′ a → a ≡ TableRefused k l
-      → Answers text asked out draft table arena work out (Refused k l)
-  refused-answer {w} {w′} {a} {k} {l} e q f =
-      answer-as (refused k l) e
-      (call-then asked text (length out) ∙ ap (λ (x : Result rules.Table). then x (λ (T : rules.Table). askedOf T asked (length out))) (refused-read q f))
-      (record { outcome = refl; output = refl })
+  pub short-answer : b ≡ true → Answers text asked out draft table arena work out (Refused 20 0)
+  short-answer e = answer-by true e (λ x k. record { outcome = refl; output = refl })
 
-  -- the table's facts were cleared before it was read, and arena and work are as long as they were
-  pub listed-answer : {table₁ table₂ arena₂ work₂ out′ : List ℕ} {a : Answer} {t : Table} {r : Outcome} → b ≡ false → Clears table 0 rowsAt table₁
-      → length table₁ ≡ length table → ReadInto text table₁ table₂ a → a ≡ Accepted t → length arena₂ ≡ length arena → length work₂ ≡ length work
-      → ListsAsked out table₂ t arena₂ work₂ asked out′ r → Answers text asked out draft table arena work out′ r
-  listed-answer {table₁} {table₂} {arena₂} {work₂} {out′} {a} {t} {r} e c l q f la lw s =
-      let T : rules.Table = rules.fromSections (tableFrom t table₂) in
-      let n = long-enough h e in
-      let lent : LentTo table arena₂ work₂ = record { table = n .0; arena = omega (arith, n .1); work = omega (arith, n .2) } in
-      let fresh : Fresh T t table₂ arena₂ work₂ = fresh-read c l q f lent in
-      answer-as (askedOf T asked (length out)) e
-      (call-then asked text (length out) ∙ ap (λ (x : Result rules.Table). then x (λ (T : rules.Table). askedOf T asked (length out))) (accepted-read q f))
-      (s .is fresh)
+  module _ (e : b ≡ false) where
+    pub refused-answer : {w w′ : List ℕ} {a : Answer} {k l : ℕ} → ReadInto text w w′ a → a ≡ TableRefused k l
+        → Answers text asked out draft table arena work out (Refused k l)
+    refused-answer q f = answer-by false e (λ x c. refused-as out (refused-by text (length out) asked (refused-read q f) c))
+
+    pub no-entry : {table₁ table₂ : List ℕ} {a : Answer} {t : Table} {no : Bool} → Clears table 0 rowsAt table₁ → length table₁ ≡ length table
+        → ReadInto text table₁ table₂ a → a ≡ Accepted t → IsNoEntry t asked no → no ≡ true → Answers text asked out draft table arena work out (Refused 3 0)
+    no-entry {table₂ = table₂} {t = t} c l q f z y =
+        let fresh : Fresh (rules.fromSections (tableFrom t table₂)) t table₂ arena work = fresh-of h e c l q f in
+        let k = known-by z fresh y in
+        answer-by false e (λ x d. refused-as out (asked-none text (length out) _ (accepted-read q f) asked k d))
+
+    pub delivered : {table₁ table₂ old table₃ out′ : List ℕ} {a : Answer} {t : Table} {no : Bool} {g : Prepared} {r : Outcome} → Clears table 0 rowsAt table₁
+        → length table₁ ≡ length table → ReadInto text table₁ table₂ a → a ≡ Accepted t → IsNoEntry t asked no → no ≡ false
+        → Prepares table₂ t table₃ g → length table₃ ≡ length table₂ → Delivers text out old table₃ g arena work asked out′ r
+        → Answers text asked out draft table arena work out′ r
+    unfolding firstPass
+    delivered {table₂ = table₂} {old} {table₃} {t = t} {g = g} c l q f z y p lp d =
+        let T : rules.Table = rules.fromSections (tableFrom t table₂) in
+        let fresh : Fresh T t table₂ arena work = fresh-of h e c l q f in
+        let u : Running T g table₃ arena work = fresh-prepared fresh p lp in
+        let k = known-by z fresh y in
+        answer-by false e
+        (λ x a.
+        let s = asked-some text (length out) T (accepted-read q f) text old g asked (u .prepared .knows .count) k a in
+        says-as out (s .is) (d .is (s .t) u (s .asks)))
+
+-- what `call` comes to
+pub calls : {text out draft table arena work draft₁ table₁ arena₁ work₁ out′ draft′ table′ arena′ work′ : List ℕ} {asked : Asked} {r : Outcome}
+    → Answers text asked out draft table arena work out′ r
+    → length draft₁ ≡ length draft → length table₁ ≡ length table → length arena₁ ≡ length arena → length work₁ ≡ length work
+    → Wiped draft₁ table₁ arena₁ work₁ draft′ table′ arena′ work′ → Calls text asked out draft table arena work out′ draft′ table′ arena′ work′ r
+calls s d t a w z = record { is = λ x k. called (s .is x k) d t a w z }

@@ -80,9 +80,9 @@ module _ {c : Canon} {w : List ℕ} {l : Listed} {y : Found} {q : Pass} {m : Mem
             let xs = remove-redundant-negations (c .functor) (st .nodes) (g .list) in
             settles-of
             (λ rest.
-              bind-of (mergedEnd (c .functor) (rest ys)) (g .is)
-              ∙ ap (λ (d : Bool). merged-rest (c .functor) (rest ys) d xs st) (sym (t .is (g .stands .arena) (f .is (g .stands .arena) (g .taken))) ∙ z))
-            (a .is (store Bottom st) w′ (stores-bottom h (g .stands)))
+            bind-of (mergedEnd (c .functor) (rest ys)) (g .is)
+            ∙ ap (λ (d : Bool). merged-rest (c .functor) (rest ys) d xs st) (sym (t .is (g .stands .arena) (f .is (g .stands .arena) (g .taken))) ∙ z))
+            (a .is (store Bottom st) w′ (stores-bottom h (g .stands)));
       }
 
   pub merged-settles : {w′ w″ : List ℕ} {d : Listed} {r : Settled} → l .flow ≡ On q → Makes (remove-redundant-negations (c .functor)) w (l .members) m
@@ -97,11 +97,11 @@ module _ {c : Canon} {w : List ℕ} {l : Listed} {y : Found} {q : Pass} {m : Mem
             let tm = f .is (g .stands .arena) (g .taken) in
             settles-of
             (λ rest.
-              bind-of (mergedEnd (c .functor) (rest ys)) (g .is)
-              ∙ ap (λ (d : Bool). merged-rest (c .functor) (rest ys) d xs st) (sym (t .is (g .stands .arena) tm) ∙ z))
+            bind-of (mergedEnd (c .functor) (rest ys)) (g .is)
+            ∙ ap (λ (d : Bool). merged-rest (c .functor) (rest ys) d xs st) (sym (t .is (g .stands .arena) tm) ∙ z))
             (a .is (factor-shared-from-intersection xs st) ys (h .is (g .stands) (taken-nodes (g .stands) tm))
             (leads-step (ok xs st) factor-shared-from-intersection keeps-factor
-            (leads-now xs st (leads .below (g .list) st (g .is)) (leads .first (g .list) st (g .is)))))
+            (leads-now xs st (leads .below (g .list) st (g .is)) (leads .first (g .list) st (g .is)))));
       }
 
 pub merged-off : {c : Canon} {w : List ℕ} {l : Listed} {y : Found} {k : ℕ} → l .flow ≡ Refused k → SettlesMerged c w l y w (RefusedS k)
@@ -130,9 +130,9 @@ module _ {table w work : List ℕ} {c : Canon} {h n : ℕ} {f : Flow} {all : Lis
             let sound = soundly-step o (flattened 6) (keeps-flattened 6) (visited-soundly v) ys st (g .is) in
             settles-of
             (λ rest.
-              bind-both o (flattened 6) (bounds-rest p Negative rest)
-              ∙ bind-of (bounds-rest p Negative rest) (g .is)
-              ∙ ap (λ (k : ℕ). bind (merge-attrset-intersection ms st) (mergedEnd k (rest ys))) (given .functor))
+            bind-both o (flattened 6) (bounds-rest p Negative rest)
+            ∙ bind-of (bounds-rest p Negative rest) (g .is)
+            ∙ ap (λ (k : ℕ). bind (merge-attrset-intersection ms st) (mergedEnd k (rest ys))) (given .functor))
             (z .is (merge-attrset-intersection ms st) ys (merges .is sound (g .stands) (taken-nodes (g .stands) tm) roomy)
             (leads-step (ok ms st) merge-attrset-intersection keeps-merge
             (leads-now ms st (g .taken .below) (first .is (g .taken .list)))));

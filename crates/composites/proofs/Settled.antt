@@ -33,7 +33,7 @@ use Rattle.members.specs.declared.lists.Flow.the-variants.{On, Refused}
 use Rattle.members.specs.declared.lists.Listed.{Listed}
 use Rattle.members.specs.Lists.{Few, Lists, Taken, Makes, Gives, AnswersFlow, Answers, Refuses, stays, sift, DropsFillers}
 use Rattle.members.specs.Flattens.{Spreads}
-use Rattle.members.proofs.Gathered.{wraps-union, wraps-intersection}
+use Rattle.members.proofs.Gathered.{wraps-union, wraps-intersection, taken-list}
 use Rattle.composites.specs.declared.lists.Settled.{Settled}
 use Rattle.composites.specs.declared.lists.Settled.the-variants.{Node as NodeS, Empty as EmptyS, Refused as RefusedS}
 use Rattle.composites.specs.Places.{GivenTo, Held, HeldFlow, FirstIs, Settles, unionEnd, UnionOf}
@@ -132,9 +132,9 @@ module _ {kind : ℕ} {w work : List ℕ} {h n : ℕ} {f : Flow} where
   flat-many {r = r} e lt z =
       flat-by kind f e
       (λ o d.
-        stopped (bind o (flattened kind)) w r z
-        (bind-of (flattened kind) (d .is)
-        ∙ bind-of (λ ms st. limit (flatten-composite kind (st .nodes) ms) st) (limit-many (d .list) (d .after) (omega (arith, d .count)))))
+      stopped (bind o (flattened kind)) w r z
+      (bind-of (flattened kind) (d .is)
+      ∙ bind-of (λ ms st. limit (flatten-composite kind (st .nodes) ms) st) (limit-many (d .list) (d .after) (omega (arith, d .count)))))
 
   pub flat-over : {q : Pass} {a m : Members} {r : Listed} → f ≡ On q → n ≤ mostMembers → Lists a (part work h n) → Spreads (flatten-composite kind) w a m → mostMembers < m .count
       → Refuses 7 r → Flattens kind w work h n f r
@@ -150,16 +150,16 @@ pub fillers-out : {table w : List ℕ} {c : Canon} {l : Listed} {m : Members} �
     → WithoutFillers table c w l (record { flow = l .flow; members = m })
 fillers-out {table} {w} {c} {l} {m} z =
     record { is = λ {p} given. record { is = λ o a. by p given o (l .flow) a } } where
-  by : (p : runs.Pass) → GivenTo p table c → (o : Out (List ℕ)) (f : Flow) → AnswersFlow o w (l .members) f → AnswersFlow (bind o (concreteOf p)) w m f
-  by p given o (On q) a =
-      record {
-        after = a .after;
-        list = sift (stays p) (a .after .nodes) (a .list);
-        is = bind-of (concreteOf p) (a .is);
-        stands = a .stands;
-        taken = z .is (given .preserves) .is (a .stands .arena) (a .taken);
-      }
-  by p given o (Refused k) a = bind-of (concreteOf p) a
+      by : (p : runs.Pass) → GivenTo p table c → (o : Out (List ℕ)) (f : Flow) → AnswersFlow o w (l .members) f → AnswersFlow (bind o (concreteOf p)) w m f
+      by p given o (On q) a =
+          record {
+            after = a .after;
+            list = sift (stays p) (a .after .nodes) (a .list);
+            is = bind-of (concreteOf p) (a .is);
+            stands = a .stands;
+            taken = z .is (given .preserves) .is (a .stands .arena) (a .taken);
+          }
+      by p given o (Refused k) a = bind-of (concreteOf p) a
 
 -- the ways of `union_normalized`
 pub union-positive : {w : List ℕ} {pol : Polarity} {m a b : Members} → pol ≡ Positive → Makes remove-tautological-pairs w m a → Makes absorb-subsumed-union-members w a b
@@ -188,7 +188,7 @@ settled-node e =
     record {
       is = λ o w a.
           let b = subst (λ (y : Given). Stores o w y) e a .is in
-          record { is = record { after = b .after; is = λ rest. b .is; stands = b .stands; below = b .below } }
+          record { is = record { after = b .after; is = λ rest. b .is; stands = b .stands; below = b .below } };
     }
 
 pub settled-refused : {g : Given} {k : ℕ} → g ≡ RefusedG k → AsSettled g (RefusedS k)
@@ -200,9 +200,6 @@ stores-bottom h on = h .is on (record { cells = refl; few = omega arith; below =
 
 stores-top : {st : State} {w w′ : List ℕ} {q : Pass} {g : Given} → Stored (10 ∷ []) 0 w q w′ g → Stands st w q → Stores (store Top st) w′ g
 stores-top h on = h .is on (record { cells = refl; few = omega arith; below = tt; short = omega arith }) refl
-
-taken-list : {m : Members} {xs : List ℕ} {k : ℕ} → Taken m xs k → part (m .at) 0 (m .count) ≡ xs
-taken-list {m} t = ap (part (m .at) 0) (t .list .count) ∙ t .list .holds .is
 
 settle-none : {m : Members} {k : ℕ} (b : Bool) (rest : Run ℕ) (wrap : List ℕ → Node) (xs : List ℕ) (st : State) → Taken m xs k → m .count ≡ 0
     → settle b rest wrap xs st ≡ if b (λ _. store Top) (λ _. rest) st
@@ -237,7 +234,7 @@ module _ {kind : ℕ} {w : List ℕ} {q : Pass} {m : Members} {cancelled : Bool}
                 stands = on;
                 below = let b = head-below xs t e in omega (arith, on .arena .count);
               };
-            }
+            };
       }
 
   pub settle-stored : {w′ : List ℕ} {g : Given} {r : Settled} → (m .count ≡ 1 → ⊥) → (m .count ≡ 0 → ⊥) → ListedNode kind (m .at) 0 (m .count) w q w′ g → AsSettled g r
@@ -246,7 +243,7 @@ module _ {kind : ℕ} {w : List ℕ} {q : Pass} {m : Members} {cancelled : Bool}
       record {
         is = λ {st} {xs} {wrap} ys wraps on t under first.
             settles-of (λ rest. settle-more cancelled (rest ys) wrap xs st t one none)
-            (z .is (store (wrap xs) st) w′ (h .is on (subst (λ (l : List ℕ). ListNode (wrap xs) kind l (q .nodes)) (sym (taken-list t)) (wraps .is xs (t .below)))))
+            (z .is (store (wrap xs) st) w′ (h .is on (subst (λ (l : List ℕ). ListNode (wrap xs) kind l (q .nodes)) (sym (taken-list t)) (wraps .is xs (t .below)))));
       }
 
   pub settle-top : {w′ : List ℕ} {g : Given} {r : Settled} → m .count ≡ 0 → cancelled ≡ true → Stored (10 ∷ []) 0 w q w′ g → AsSettled g r
@@ -255,7 +252,7 @@ module _ {kind : ℕ} {w : List ℕ} {q : Pass} {m : Members} {cancelled : Bool}
       record {
         is = λ {st} {xs} {wrap} ys wraps on t under first.
             settles-of (λ rest. settle-none cancelled (rest ys) wrap xs st t e ∙ ap (λ (b : Bool). if b (λ _. store Top) (λ _. rest ys) st) f)
-            (z .is (store Top st) w′ (stores-top h on))
+            (z .is (store Top st) w′ (stores-top h on));
       }
 
   pub settle-empty : m .count ≡ 0 → cancelled ≡ false → SettlesList kind w q m cancelled y w (EmptyS y q)
@@ -271,7 +268,7 @@ module _ {kind : ℕ} {w : List ℕ} {q : Pass} {m : Members} {cancelled : Bool}
                 below = under;
                 first = first;
               };
-            }
+            };
       }
 
 -- the ways of `settle_listed`
@@ -282,7 +279,7 @@ module _ {w : List ℕ} {l : Listed} {cancelled : Bool} {y : Found} where
         is = λ o ys a leads.
             let g = goes-on o w l e a in
             settles-of (λ rest. bind-of (settle cancelled (rest ys) Intersection) (g .is))
-            (z .is ys wraps-intersection (g .stands) (taken-nodes (g .stands) (g .taken)) (leads .below (g .list) (g .after) (g .is)) (leads .first (g .list) (g .after) (g .is)))
+            (z .is ys wraps-intersection (g .stands) (taken-nodes (g .stands) (g .taken)) (leads .below (g .list) (g .after) (g .is)) (leads .first (g .list) (g .after) (g .is)));
       }
 
   pub listed-off : {k : ℕ} → l .flow ≡ Refused k → SettlesListed w l cancelled y w (RefusedS k)
@@ -313,7 +310,7 @@ or-node {w} e =
     record {
       is = λ f a.
           let b = subst (λ (r : Settled). Settles f w r) e a .is in
-          record { is = record { after = b .after; is = b .is firstMember; stands = b .stands; below = b .below } }
+          record { is = record { after = b .after; is = b .is firstMember; stands = b .stands; below = b .below } };
     }
 
 pub or-empty : {w w′ : List ℕ} {z : Settled} {y : Found} {q : Pass} {g : Given} → z ≡ EmptyS y q → FirstOrBottom w y q w′ g → OrFirst w z w′ g
@@ -321,7 +318,7 @@ or-empty {w} e h =
     record {
       is = λ f a.
           let b = subst (λ (r : Settled). Settles f w r) e a .is in
-          stores-of (b .is firstMember) (h .is (b .list) (b .stands) (b .below) (b .first))
+          stores-of (b .is firstMember) (h .is (b .list) (b .stands) (b .below) (b .first));
     }
 
 pub or-refused : {w : List ℕ} {z : Settled} {k : ℕ} → z ≡ RefusedS k → OrFirst w z w (RefusedG k)
@@ -368,11 +365,11 @@ module _ {table w work : List ℕ} {c : Canon} {h n : ℕ} {f : Flow} {pol : Pol
             let zs = unionMembers pol (st .nodes) ms in
             settles-of
             (λ rest.
-              bind-both o (flattened 5) (union-rest p pol rest)
-              ∙ bind-of (union-rest p pol rest) (g .is)
-              ∙ union-step pol ms st (settle (topIfEmptied pol ms) (rest ys) Union)
-              ∙ ap (λ (b : Bool). settle b (rest ys) Union zs st) (sym (top .is (tm .list))))
-            (z .is ys wraps-union (g .stands) (taken-nodes (g .stands) (makes .is (g .stands .arena) tm)) (g .taken .below) (first .is (g .taken .list)))
+            bind-both o (flattened 5) (union-rest p pol rest)
+            ∙ bind-of (union-rest p pol rest) (g .is)
+            ∙ union-step pol ms st (settle (topIfEmptied pol ms) (rest ys) Union)
+            ∙ ap (λ (b : Bool). settle b (rest ys) Union zs st) (sym (top .is (tm .list))))
+            (z .is ys wraps-union (g .stands) (taken-nodes (g .stands) (makes .is (g .stands .arena) tm)) (g .taken .below) (first .is (g .taken .list)));
       }
 
   pub union-off : {k : ℕ} → Flattens 5 w work h n f all → all .flow ≡ Refused k → SettlesUnion table c w work h n f pol w (RefusedS k)
@@ -383,7 +380,7 @@ module _ {table w work : List ℕ} {c : Canon} {h n : ℕ} {f : Flow} {pol : Pol
               is = λ rest.
                   bind-both o (flattened 5) (union-rest p pol rest)
                   ∙ bind-of (union-rest p pol rest) (stops (bind o (flattened 5)) w all e (flat .is o v));
-            }
+            };
       }
 
 -- `union_of`

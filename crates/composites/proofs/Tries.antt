@@ -61,19 +61,19 @@ module _ {c : Canon} {w work : List ℕ} {h : ℕ} {q : Pass} {m : Members} {pol
   normalized-down {w′} {work′} {l} {a} e z f =
       subst (λ (x : Polarity). NormalizesInter c w work h q m x w′ work′ (record { flow = l .flow; members = a })) (sym e)
       (record { kept = z .kept; is = λ p same sound on t roomy. by p same _ (l .flow) (z .is sound on t roomy) }) where
-    redundant : ℕ → List ℕ → Run (List ℕ)
-    redundant k one = λ st. ok (remove-redundant-negations k (st .nodes) one) st
+        redundant : ℕ → List ℕ → Run (List ℕ)
+        redundant k one = λ st. ok (remove-redundant-negations k (st .nodes) one) st
 
-    by : (p : runs.Pass) → p .functor ≡ c .functor → (o : Out (List ℕ)) (x : Flow) → AnswersFlow o w′ (l .members) x → AnswersFlow (bind o (redundant (p .functor))) w′ a x
-    by p same o (On q) g =
-        record {
-          after = g .after;
-          list = remove-redundant-negations (c .functor) (g .after .nodes) (g .list);
-          is = bind-of (redundant (p .functor)) (g .is) ∙ ap (λ (k : ℕ). ok (remove-redundant-negations k (g .after .nodes) (g .list)) (g .after)) same;
-          stands = g .stands;
-          taken = f .is (g .stands .arena) (g .taken);
-        }
-    by p same o (Refused k) g = bind-of (redundant (p .functor)) g
+        by : (p : runs.Pass) → p .functor ≡ c .functor → (o : Out (List ℕ)) (x : Flow) → AnswersFlow o w′ (l .members) x → AnswersFlow (bind o (redundant (p .functor))) w′ a x
+        by p same o (On q) g =
+            record {
+              after = g .after;
+              list = remove-redundant-negations (c .functor) (g .after .nodes) (g .list);
+              is = bind-of (redundant (p .functor)) (g .is) ∙ ap (λ (k : ℕ). ok (remove-redundant-negations k (g .after .nodes) (g .list)) (g .after)) same;
+              stands = g .stands;
+              taken = f .is (g .stands .arena) (g .taken);
+            }
+        by p same o (Refused k) g = bind-of (redundant (p .functor)) g
 
 -- a step where those before it go on, and where they were refused
 module _ {f : List ℕ → Run (List ℕ)} {w : List ℕ} {l : Listed} where
@@ -82,7 +82,7 @@ module _ {f : List ℕ → Run (List ℕ)} {w : List ℕ} {l : Listed} where
       record {
         is = λ o a.
             let g = goes-on o w l e a in
-            answers-of w′ r (bind-of f (g .is)) (z .is (g .stands) (taken-nodes (g .stands) (g .taken)))
+            answers-of w′ r (bind-of f (g .is)) (z .is (g .stands) (taken-nodes (g .stands) (g .taken)));
       }
 
   pub steps-off : {k : ℕ} → l .flow ≡ Refused k → Steps f w l w l
@@ -103,7 +103,7 @@ inter-settled {c} {cancelled = cancelled} i f d e =
           stores-of
           (bind-both o simple (λ xs. factor-shared-from-intersection xs >>= settle cancelled (firstMember ys) Intersection)
           ∙ bind-both o2 factor-shared-from-intersection (settle cancelled (firstMember ys) Intersection))
-          (e .is (λ rest. bind o3 (settle cancelled (rest ys) Intersection)) (d .is o3 ys (f .is o2 (i .is o a)) known))
+          (e .is (λ rest. bind o3 (settle cancelled (rest ys) Intersection)) (d .is o3 ys (f .is o2 (i .is o a)) known));
     }
 
 -- `inter_rest`
@@ -129,7 +129,7 @@ tried-node e =
     record {
       is = λ o w a.
           let b = subst (λ (y : Given). Stores o w y) e a .is in
-          record { is = record { after = b .after; is = λ rest. b .is; stands = b .stands; below = b .below } }
+          record { is = record { after = b .after; is = λ rest. b .is; stands = b .stands; below = b .below } };
     }
 
 pub tried-refused : {g : Given} {k : ℕ} → g ≡ RefusedG k → AsTried g (RefusedT k)
@@ -247,10 +247,10 @@ module _ {table w work w1 w2 work2 : List ℕ} {c : Canon} {h : ℕ} {f : Flow} 
             let leads : Leads o ys y = record { below = under; first = λ xs st i. subst (FirstIs ys) (sym (first .twice x e)) lead } in
             tries-of
             (λ rest.
-              bind-both o (flattened 6) (λ zs. concreteOf p zs >>= second-rest p pol ys rest)
-              ∙ bind-both o2 (concreteOf p) (second-rest p pol ys rest)
-              ∙ bind-both o3 (simplify-union-neg-intersection (p .functor)) (interTested p pol ys rest)
-              ∙ ap (λ (k : ℕ). bind (bind o3 (simplify-union-neg-intersection k)) (interTested p pol ys rest)) (given .functor))
+            bind-both o (flattened 6) (λ zs. concreteOf p zs >>= second-rest p pol ys rest)
+            ∙ bind-both o2 (concreteOf p) (second-rest p pol ys rest)
+            ∙ bind-both o3 (simplify-union-neg-intersection (p .functor)) (interTested p pol ys rest)
+            ∙ ap (λ (k : ℕ). bind (bind o3 (simplify-union-neg-intersection k)) (interTested p pol ys rest)) (given .functor))
             (checks .is p (bind o3 simple) ys (given .functor) (members .twice x e .is o3 (fillers .is given .is o2 (flat .is o v)))
             (soundly-step o3 simple (keeps-simplify (c .functor)) (known p o v)) roomy
             (leads-step o3 simple (keeps-simplify (c .functor))

@@ -98,9 +98,9 @@ mergedEnd functor rest one = do
   xs ← ask (λ (ns : List Node). remove-redundant-negations functor ns one)
   contradicts ← ask (λ (ns : List Node). has-type-contradiction functor ns xs)
   if contradicts (λ _. store Bottom)
-    (λ _. do
-      ys ← factor-shared-from-intersection xs
-      settle false rest Intersection ys)
+      (λ _. do
+        ys ← factor-shared-from-intersection xs
+        settle false rest Intersection ys)
 
 -- l is what the merge gave
 pub record SettlesMerged (c : Canon) (w : List ℕ) (l : Listed) (first : Found) (w′ : List ℕ) (r : Settled) : Type 0 where

@@ -35,7 +35,15 @@ pub enum Tried {
 }
 
 // Ty::Union of the two answers held from h on.
-pub fn union_of(table: &[u32], c: Canon, arena: &mut [u32], work: &[u32], h: u32, q: Pass, pol: Polarity) -> Given
+pub fn union_of(
+    table: &[u32],
+    c: Canon,
+    arena: &mut [u32],
+    work: &[u32],
+    h: u32,
+    q: Pass,
+    pol: Polarity,
+) -> Given
     ensures { λ r. ⌜ UnionOf (now (table .entry)) c (now (arena .entry)) (now (work .entry)) h q pol (now (arena .exit)) r ⌝ }
 {
     let s = settle_union(table, c, arena, work, h, 2, Flow::On(q), pol);
@@ -43,7 +51,15 @@ pub fn union_of(table: &[u32], c: Canon, arena: &mut [u32], work: &[u32], h: u32
 }
 
 // Ty::Inter, the normalization of a place.
-fn inter_normalized(c: Canon, arena: &mut [u32], work: &mut [u32], h: u32, q: Pass, m: Members, pol: Polarity) -> Listed
+fn inter_normalized(
+    c: Canon,
+    arena: &mut [u32],
+    work: &mut [u32],
+    h: u32,
+    q: Pass,
+    m: Members,
+    pol: Polarity,
+) -> Listed
     ensures { λ r. ⌜ NormalizesInter c (now (arena .entry)) (now (work .entry)) h q m pol (now (arena .exit)) (now (work .exit)) r ⌝ }
 {
     match pol {
@@ -70,7 +86,12 @@ fn simplified(c: Canon, arena: &mut [u32], l: Listed) -> Listed
 {
     let flow = l.flow;
     match flow {
-        Flow::On(q) => intersections::simplify_union_neg_intersection(arena, c.functor, q, l.members),
+        Flow::On(q) => intersections::simplify_union_neg_intersection(
+            arena,
+            c.functor,
+            q,
+            l.members,
+        ),
         Flow::Refused(_) => l,
     }
 }
@@ -97,7 +118,16 @@ fn inter_settled(c: Canon, arena: &mut [u32], l: Listed, cancelled: bool, first:
 }
 
 // Ty::Inter, once its members do not contradict each other.
-fn inter_rest(c: Canon, arena: &mut [u32], work: &mut [u32], h: u32, q: Pass, m: Members, first: Found, pol: Polarity) -> Given
+fn inter_rest(
+    c: Canon,
+    arena: &mut [u32],
+    work: &mut [u32],
+    h: u32,
+    q: Pass,
+    m: Members,
+    first: Found,
+    pol: Polarity,
+) -> Given
     ensures { λ r. ⌜ RestsInter c (now (arena .entry)) (now (work .entry)) h q m first pol (now (arena .exit)) (now (work .exit)) r ⌝ }
 {
     let l = inter_normalized(c, arena, work, h, q, m, pol);
@@ -134,7 +164,15 @@ fn first_tried(t: Try, m: Members) -> Found
 }
 
 // Ty::Inter with the members of a try, up to a contradiction.
-fn inter_checked(c: Canon, arena: &mut [u32], work: &mut [u32], h: u32, l: Listed, first: Found, pol: Polarity) -> Tried
+fn inter_checked(
+    c: Canon,
+    arena: &mut [u32],
+    work: &mut [u32],
+    h: u32,
+    l: Listed,
+    first: Found,
+    pol: Polarity,
+) -> Tried
     ensures { λ r. ⌜ ChecksInter c (now (arena .entry)) (now (work .entry)) h l first pol (now (arena .exit)) (now (work .exit)) r ⌝ }
 {
     let flow = l.flow;
@@ -150,7 +188,16 @@ fn inter_checked(c: Canon, arena: &mut [u32], work: &mut [u32], h: u32, l: Liste
 }
 
 // Ty::Inter of the two answers held from h on, up to a contradiction.
-pub fn inter_tried(table: &[u32], c: Canon, arena: &mut [u32], work: &mut [u32], h: u32, f: Flow, t: Try, pol: Polarity) -> Tried
+pub fn inter_tried(
+    table: &[u32],
+    c: Canon,
+    arena: &mut [u32],
+    work: &mut [u32],
+    h: u32,
+    f: Flow,
+    t: Try,
+    pol: Polarity,
+) -> Tried
     ensures { λ r. ⌜ TriesInter (now (table .entry)) c (now (arena .entry)) (now (work .entry)) h f t pol (now (arena .exit)) (now (work .exit)) r ⌝ }
 {
     let all = flattened(arena, work, h, 2, f, OutputTy::INTERSECTION);

@@ -6,9 +6,9 @@ use crate::lists::flattened;
 use crate::lists::real_members;
 use crate::lists::settle_listed;
 use crate::lists::settle_union;
+use lang_ty::arena;
 use lang_ty::arena::Found;
 use lang_ty::arena::OutputTy;
-use lang_ty::arena;
 use members::lists::Flow;
 use members::lists::Listed;
 use rules::Polarity;
@@ -37,7 +37,15 @@ fn settle_merged(arena: &mut [u32], c: Canon, l: Listed, first: Found) -> Settle
 }
 
 // The n answers held from h on in a negative place.
-fn settle_intersection(table: &[u32], c: Canon, arena: &mut [u32], work: &mut [u32], h: u32, n: u32, f: Flow) -> Settled
+fn settle_intersection(
+    table: &[u32],
+    c: Canon,
+    arena: &mut [u32],
+    work: &mut [u32],
+    h: u32,
+    n: u32,
+    f: Flow,
+) -> Settled
     ensures { λ r. ⌜ Normalizes (now (table .entry)) c (now (arena .entry)) (now (work .entry)) h n f Negative (now (arena .exit)) (now (work .exit)) r ⌝ }
 {
     let all = flattened(arena, work, h, n, f, OutputTy::INTERSECTION);
@@ -53,7 +61,16 @@ fn settle_intersection(table: &[u32], c: Canon, arena: &mut [u32], work: &mut [u
 }
 
 // expand_bounds, steps 2 to 5: the n answers held from h on, flattened, without fillers, normalized and settled.
-pub fn normalize(table: &[u32], c: Canon, arena: &mut [u32], work: &mut [u32], h: u32, n: u32, f: Flow, pol: Polarity) -> Settled
+pub fn normalize(
+    table: &[u32],
+    c: Canon,
+    arena: &mut [u32],
+    work: &mut [u32],
+    h: u32,
+    n: u32,
+    f: Flow,
+    pol: Polarity,
+) -> Settled
     ensures { λ r. ⌜ Normalizes (now (table .entry)) c (now (arena .entry)) (now (work .entry)) h n f pol (now (arena .exit)) (now (work .exit)) r ⌝ }
 {
     match pol {

@@ -1,4 +1,4 @@
 // What is made of answers in a place: a variable's expanded bounds, a union, an intersection.
-pub mod bounds;
 pub mod binary;
+pub mod bounds;
 pub mod lists;

@@ -1,15 +1,15 @@
 // What bounds, unions and intersections share: answers flattened, fillers dropped, a list settled as a node.
+use lang_ty::arena;
 use lang_ty::arena::Found;
 use lang_ty::arena::Given;
 use lang_ty::arena::OutputTy;
 use lang_ty::arena::Pass;
-use lang_ty::arena;
 use layout::TableSlice;
 use members::flatten;
+use members::lists;
 use members::lists::Flow;
 use members::lists::Listed;
 use members::lists::Members;
-use members::lists;
 use rules::Polarity;
 use simplify::unions;
 use storage::given::Canon;
@@ -87,7 +87,14 @@ fn union_normalized(arena: &[u32], m: Members, pol: Polarity) -> Members
 
 // A list as a node: Top where all members of a positive place cancelled, nothing, a sole member, or a composite; first is its first member
 // before filtering.
-fn settle(arena: &mut [u32], q: Pass, m: Members, kind: u32, cancelled: bool, first: Found) -> Settled
+fn settle(
+    arena: &mut [u32],
+    q: Pass,
+    m: Members,
+    kind: u32,
+    cancelled: bool,
+    first: Found,
+) -> Settled
     ensures { λ r. ⌜ SettlesList kind (now (arena .entry)) q m cancelled first (now (arena .exit)) r ⌝ }
 {
     let ms = m.at;
@@ -119,7 +126,14 @@ pub fn settle_listed(arena: &mut [u32], l: Listed, cancelled: bool, first: Found
 {
     let flow = l.flow;
     match flow {
-        Flow::On(q) => settle(arena, q, l.members, OutputTy::INTERSECTION, cancelled, first),
+        Flow::On(q) => settle(
+            arena,
+            q,
+            l.members,
+            OutputTy::INTERSECTION,
+            cancelled,
+            first,
+        ),
         Flow::Refused(k) => Settled::Refused(k),
     }
 }
@@ -156,7 +170,16 @@ pub fn first_of(m: Members) -> Found
 }
 
 // The n answers held from h on as a union: flattened, without fillers, normalized and settled.
-pub fn settle_union(table: &[u32], c: Canon, arena: &mut [u32], work: &[u32], h: u32, n: u32, f: Flow, pol: Polarity) -> Settled
+pub fn settle_union(
+    table: &[u32],
+    c: Canon,
+    arena: &mut [u32],
+    work: &[u32],
+    h: u32,
+    n: u32,
+    f: Flow,
+    pol: Polarity,
+) -> Settled
     ensures { λ r. ⌜ SettlesUnion (now (table .entry)) c (now (arena .entry)) (now (work .entry)) h n f pol (now (arena .exit)) r ⌝ }
 {
     let all = flattened(arena, work, h, n, f, OutputTy::UNION);
@@ -166,7 +189,14 @@ pub fn settle_union(table: &[u32], c: Canon, arena: &mut [u32], work: &[u32], h:
             let m = real_members(table, c, arena, all.members);
             let a = union_normalized(arena, m, pol);
             let cancelled = top_if_emptied(pol, m);
-            settle(arena, q, a, OutputTy::UNION, cancelled, first_of(all.members))
+            settle(
+                arena,
+                q,
+                a,
+                OutputTy::UNION,
+                cancelled,
+                first_of(all.members),
+            )
         }
         Flow::Refused(k) => Settled::Refused(k),
     }

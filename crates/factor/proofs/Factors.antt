@@ -5,11 +5,11 @@ use Prim.Native.Nat.{ℕ, zero, suc, _+_, _≤_, _<_}
 use native.Mathlib.Omega.{arith}
 use native.Mathlib.Nat.{not-suc-le-zero}
 use native.Mathlib.Numerals.{add-one}
-use mathlib.Core.List.{List, [], _∷_, _++_, append-nil, append-assoc}
+use mathlib.Core.List.{List, [], _∷_, _++_, append-assoc}
 use lib.ListN.{length, getD, take, drop, set, replicate, length-set, length-append, length-replicate, drop-of-length-le}
-use lib.Seq.{getD-set-other, take-all, take-suc, drop-cons, length-take-le}
+use lib.Seq.{getD-set-other, take-all, take-suc, drop-cons}
 use lib.Dec.{eqb, ltb}
-use borrow.Author.Tests.{eq-eqb, ne-eqb, le-ltb, lt-ltb, not-true, not-false}
+use borrow.Author.Tests.{eq-eqb, ne-eqb, le-ltb, lt-ltb}
 use Rattle.cells.specs.Part.{run, cell, part, if}
 use Rattle.cells.proofs.Parts.{run-length, part-set-snoc}
 use Rattle.cells.proofs.Holding.{holds-none, holds-at, holds-head}
@@ -18,7 +18,8 @@ use Rattle.rules.specs.Plain.{any, all, filter, contains}
 use Rattle.rules.specs.Types.{Node, Union, Intersection, State, Out, ok, no, Run, bind, give, store, members, is}
 use Rattle.rules.specs.Order.{order, isGreater, insert, sortInto, sort}
 use Rattle.rules.specs.Members.{membersAt, without, sole, remainders, factored, factorUnions, factor-shared-from-intersection}
-use Rattle.laws.proofs.Storing.{store-keeps, store-many}
+use Rattle.laws.proofs.Storing.{store-many}
+use Rattle.laws.proofs.Keeping.{later-length, gave, refused-not, keeps-union, keeps-intersection}
 use Rattle.lang_ty.specs.declared.arena.Pass.{Pass}
 use Rattle.lang_ty.specs.declared.arc_ty.Order.{Order}
 use Rattle.lang_ty.specs.declared.arc_ty.Order.the-variants.{Less, Equal, Greater}
@@ -32,13 +33,16 @@ use Rattle.members.specs.declared.lists.AtMostOne.{AtMostOne}
 use Rattle.members.specs.declared.lists.AtMostOne.the-variants.{Refused as RefusedP}
 use Rattle.members.specs.declared.lists.Grown.{Grown}
 use Rattle.members.specs.declared.lists.Grown.the-variants.{On as OnG, Refused as RefusedG}
-use Rattle.members.specs.Lists.{Few, Lists, Taken, Makes, Tests, Gives, AnswersFlow, Answers, Runs, Asks, Refuses, Contains, Gathered, KeepsIf, ofKind, sift, Soles, Adds, AnswersGrown, Grows, Joined, AsListed, firstOf, Pairs}
+use Rattle.members.specs.Lists.{Few, Lists, Taken, Makes, Tests, Gives, AnswersFlow, Answers, Runs, Asks, Refuses, Contains, Beside, MembersOf, Gathered, ofKind, sift, Soles, AnswersGrown, Grows, Joined, AsListed, firstOf, Pairs}
 use Rattle.members.specs.Flattens.{Listing}
-use Rattle.factor.specs.Factors.{hasMember, inOthers, inAllOthers, notAmong, Picks, Remains, AnswersMore, Leaves, behind, Placed, PutIn, Inserts, Marked, SolesAny, beside, FactorsParts, afterRests, FactorsRests, FactorsUnions, FactorsOne}
-use Rattle.laws.proofs.Filtering.{kept, filter-take, filter-length, filter-under, under-at, under-both, under-most, any-here, any-more, any-done, all-here, all-more, all-done}
-use Rattle.members.proofs.Gathered.{listOf, few-lists, few-at, few-below, gathered-none, gathered-few, gathered-list, kept-only, taken-list, Tried, wraps-union, wraps-intersection, refuses}
-use Rattle.members.proofs.Flattened.{member-nodes, by-length}
+use Rattle.factor.specs.declared.Wanted.{Wanted}
+use Rattle.factor.specs.declared.Wanted.the-variants.{InAllOthers, NotAmong}
+use Rattle.factor.specs.Factors.{hasMember, inOthers, picked, Picks, Remains, AnswersMore, Leaves, behind, Placed, PutIn, Inserts, Marked, SolesAny, beside, FactorsParts, afterRests, FactorsRests, FactorsUnions, FactorsOne}
+use Rattle.laws.proofs.Filtering.{under-both, under-most, any-here, any-more, any-done}
+use Rattle.members.proofs.Gathered.{few-lists, few-at, few-below, gathered-none, gathered-few, gathered-list, taken-list, alone, listed, Sifted, Searched, all-not, wraps-union, wraps-intersection, refuses}
+use Rattle.members.proofs.Flattened.{by-length}
 use Rattle.members.proofs.Negated.{arena-pass}
+use Rattle.members.proofs.Partway.{Loops, Partway, partway-start, partway-more, partway-no, partway-done}
 use Rattle.cells.specs.Placed.{Under}
 
 -- where there are more nodes
@@ -72,103 +76,36 @@ module _ {w : List ℕ} {u x n : ℕ} where
   pub having-done : {i : ℕ} → Count w u n → Having w u x n i → n ≤ i → Asks (hasMember x) w u false
   having-done {i} count c le = record { is = λ {q} {ns} h lt. any-done (eqb x) (membersAt ns u) i (c .is h lt) (omega (arith, count .is h lt)) }
 
--- `in_all_others` at union i
-pub record Searched (w ms : List ℕ) (n x i : ℕ) : Type 0 where
-  pub is : {q : Pass} {ns : List Node} {xs : List ℕ} → Arena w q ns → Taken (firstOf n ms) xs (length ns) → all (hasMember x ns) (drop i xs) ≡ inOthers x ns xs
+-- `in_all_others`: none of the others lacks it
+pub others-is : (x : ℕ) {w ms : List ℕ} {n : ℕ} {b r : Bool} → Searched alone (λ _ ns u. not (hasMember x ns u)) w ms 1 n b → r ≡ not b → Tests (inOthers x) w (firstOf n ms) r
+others-is x g e = record { is = λ {q} {ns} {xs} h m. e ∙ ap not (g .is tt h tt m) ∙ sym (all-not (hasMember x ns) (drop 1 xs)) }
 
-module _ {w ms : List ℕ} {n x : ℕ} where
-  pub searched-start : Searched w ms n x 1
-  searched-start = record { is = λ h t. refl }
+-- `is_picked` and `pick`
+module _ {t : Wanted} {w ms : List ℕ} {n x : ℕ} {r : Bool} where
+  picked-by : {u : Wanted} → t ≡ u → Beside (picked u) w ms n x r → Beside (picked t) w ms n x r
+  picked-by e h = subst (λ (v : Wanted). Beside (picked v) w ms n x r) (sym e) h
 
-  module _ {i y : ℕ} {b : Bool} (c : Searched w ms n x i) (lt : i < n) (e : y ≡ cell ms i) (t : Asks (hasMember x) w y b) where
-    says : {q : Pass} {ns : List Node} {xs : List ℕ} → Arena w q ns → Taken (firstOf n ms) xs (length ns) → b ≡ hasMember x ns (getD xs i 0)
-    says {ns = ns} h m = t .is h (few-below m e lt) ∙ ap (hasMember x ns) (few-at (m .list) e lt)
+  pub picked-others : t ≡ InAllOthers → Tests (inOthers x) w (firstOf n ms) r → Beside (picked t) w ms n x r
+  picked-others e h = picked-by e (record { is = λ a m lt. h .is a m })
 
-    pub searched-not : not b ≡ true → Tests (inOthers x) w (firstOf n ms) false
-    searched-not z =
-        record { is = λ {q} {ns} {xs} h m. all-here (hasMember x ns) xs i (c .is h m) (omega (arith, m .list .count)) (sym (not-true b z) ∙ says h m) }
+  pub picked-among : {b : Bool} → t ≡ NotAmong → Contains ms n x b → r ≡ not b → Beside (picked t) w ms n x r
+  picked-among e h z = picked-by e (record { is = λ a m lt. z ∙ ap not (h .is ∙ ap (λ (l : List ℕ). contains l x) (taken-list m)) })
 
-    pub searched-more : not b ≡ false → Searched w ms n x (i + 1)
-    searched-more z =
-        record { is = λ {q} {ns} {xs} h m. all-more (hasMember x ns) xs i (c .is h m) (omega (arith, m .list .count)) (sym (not-false b z) ∙ says h m) }
+pub picks-done : {f : List Node → List ℕ → ℕ → Bool} {w ms : List ℕ} {n u : ℕ} {m r : Members} → MembersOf w u m → Sifted (listed ms n) (λ xs ns. f ns xs) w m r → Picks f w ms n u r
+picks-done a g = record { is = λ {q} {ns} {xs} h t lt. g .is xs h t (a .is h lt) }
 
-  pub searched-done : {i : ℕ} → Searched w ms n x i → n ≤ i → Tests (inOthers x) w (firstOf n ms) true
-  searched-done {i} c le = record { is = λ {q} {ns} {xs} h m. all-done (hasMember x ns) xs i (c .is h m) (omega (arith, m .list .count)) }
+-- `sole` gives no more than one
+one-most : (o : Out ℕ) {l : List ℕ} {st : State} → bind o (λ z. give (z ∷ [])) ≡ ok l st → length l ≤ 1
+one-most (ok x s) e = gave (λ l st. length l ≤ 1) e (omega arith)
+one-most (no k) e = refused-not e
 
--- the members of node u sifted by a test, at member i
-pub record Picking (f : List Node → List ℕ → ℕ → Bool) (w ms : List ℕ) (n u c : ℕ) (out : List ℕ) (k i : ℕ) : Type 0 where
-  pub few : i ≤ c
-  pub is : {q : Pass} {ns : List Node} {xs : List ℕ} → Arena w q ns → Taken (listOf n ms) xs (length ns) → u < length ns
-      → Gathered out k (filter (f ns xs) (take i (membersAt ns u)))
-
-module _ {f : List Node → List ℕ → ℕ → Bool} {w ms : List ℕ} {n u c : ℕ} where
-  pub picking-start : Picking f w ms n u c (replicate mostMembers 0) 0 0
-  picking-start = record { few = omega arith; is = λ h t lt. gathered-none (length-replicate {A = ℕ} mostMembers 0) }
-
-  pub picking-more : {out out′ : List ℕ} {k k′ i x : ℕ} {b : Bool} → Count w u c → Picking f w ms n u c out k i → i < c → Member w u i x → Tried f w ms n x b
-      → KeepsIf out k x b out′ k′ → Picking f w ms n u c out′ k′ (i + 1)
-  picking-more {i = i} {x = x} {b = b} count p lt member t g =
-      record {
-        few = omega arith;
-        is = λ {q} {ns} {xs} h m le.
-            let ys = membersAt ns u in
-            let size = count .is h le in
-            let y : x ≡ getD ys i 0 = member .is h le (omega arith) in
-            let low = under-at (length ns) ys i (member-nodes h u le) (omega arith) in
-            let l = filter-length (f ns xs) (take i ys) in
-            let z = length-take-le i ys (omega arith) in
-            gathered-list
-            (ap (λ (l : List ℕ). filter (f ns xs) (take i ys) ++ l) (kept-only b x ∙ ap₂ kept (t .is h m (omega arith) ∙ ap (f ns xs) y) y)
-            ∙ sym (ap (λ (j : ℕ). filter (f ns xs) (take j ys)) (add-one i) ∙ filter-take (f ns xs) ys i (omega arith)))
-            (g .is (p .is h m le) (omega (arith, h .slim u le)))
-      }
-
-  pub picking-done : {out : List ℕ} {k i : ℕ} → Count w u c → Picking f w ms n u c out k i → c ≤ i → Picks f w ms n u (listOf k out)
-  picking-done {i = i} count p le =
-      record {
-        is = λ {q} {ns} {xs} h m lt.
-            let ys = membersAt ns u in
-            record {
-              list =
-                  gathered-few
-                  (gathered-list (ap (filter (f ns xs)) (take-all i ys (omega (arith, count .is h lt)))) (p .is h m lt))
-                  (omega (arith, filter-length (f ns xs) ys, h .slim u lt));
-              below = filter-under (f ns xs) (length ns) ys (member-nodes h u lt);
-            }
-      }
-
--- the tests of `shared_members` and `unshared`
-pub tried-others : {w ms : List ℕ} {n x : ℕ} {b : Bool} → Tests (inOthers x) w (firstOf n ms) b → Tried inAllOthers w ms n x b
-tried-others t = record { is = λ h m lt. t .is h m }
-
-pub tried-among : {w ms : List ℕ} {n x : ℕ} {b : Bool} → Contains ms n x b → Tried notAmong w ms n x (not b)
-tried-among {x = x} c = record { is = λ h m lt. ap not (c .is ∙ ap (λ (l : List ℕ). contains l x) (taken-list m)) }
-
--- what `sole` gives: no node is lost, and the list is no longer than one
-pub record Soled (st st′ : State) (l : List ℕ) : Type 0 where
-  pub more : length (st .nodes) ≤ length (st′ .nodes)
-  pub most : length l ≤ 1
-
-soled-same : {x l : List ℕ} {s t : State} → ok x s ≡ ok l t → length x ≤ 1 → Soled s t l
-soled-same {x} {l} {s} {t} e le =
-    let a : x ≡ l = cc in
-    let b : s ≡ t = cc in
-    record { more = omega (arith, ap (λ (u : State). length (u .nodes)) b); most = omega (arith, ap length a) }
-
-soled-turn : (n : Node) (st : State) (o : Out ℕ) → store n st ≡ o → (l : List ℕ) (st′ : State) → bind o (λ z. give (z ∷ [])) ≡ ok l st′ → Soled st st′ l
-soled-turn n st (no k) e l st′ f = let z : _≡_ {A = ℕ} 0 1 = cc in absurd (omega arith)
-soled-turn n st (ok x s) e l st′ f =
-    let g = store-keeps n st x s e .grows in
-    let h : Soled s st′ l = soled-same f (omega arith) in
-    record { more = omega (arith, ap length (g .nodes), length-append (st .nodes) (g .more), h .more); most = h .most }
-
-sole-gives : (wrap : List ℕ → Node) (xs : List ℕ) (st : State) (l : List ℕ) (st′ : State) → sole wrap xs st ≡ ok l st′ → Soled st st′ l
-sole-gives wrap [] st l st′ e = soled-same e (omega arith)
-sole-gives wrap (x ∷ []) st l st′ e = soled-same e (omega arith)
-sole-gives wrap (x ∷ y ∷ xs) st l st′ e = soled-turn (wrap (x ∷ y ∷ xs)) st (store (wrap (x ∷ y ∷ xs)) st) refl l st′ e
+sole-most : (wrap : List ℕ → Node) (xs : List ℕ) (st : State) {l : List ℕ} {st′ : State} → sole wrap xs st ≡ ok l st′ → length l ≤ 1
+sole-most wrap [] st e = gave (λ l st. length l ≤ 1) e (omega arith)
+sole-most wrap (x ∷ []) st e = gave (λ l st. length l ≤ 1) e (omega arith)
+sole-most wrap (x ∷ y ∷ xs) st e = one-most (store (wrap (x ∷ y ∷ xs)) st) e
 
 -- `remainder`
-pub remains-is : {w ms out w′ out′ : List ℕ} {q : Pass} {n u k : ℕ} {rest : Members} {p : AtMostOne} {r : Grown} → Picks notAmong w ms n u rest
+pub remains-is : {w ms out w′ out′ : List ℕ} {q : Pass} {n u k : ℕ} {rest : Members} {p : AtMostOne} {r : Grown} → Picks (picked NotAmong) w ms n u rest
     → Soles 5 w q rest w′ p → Grows out k p out′ r → Remains w q ms n u out k w′ out′ r
 remains-is {w′ = w′} {u = u} a b g =
     record {
@@ -176,139 +113,71 @@ remains-is {w′ = w′} {u = u} a b g =
           let e = on .arena .count in
           g .is (sole Union (without xs (membersAt (st .nodes) u)) st) w′
           (b .is wraps-union on (taken-most (omega arith) (a .is (on .arena) (taken-most (omega arith) t) (omega arith))))
-          gathered le
+          gathered le;
     }
 
--- `remainders` at union i: what the rules give is what they give for the rest, behind what was got
-bind-give : (o : Out (List ℕ)) → o ≡ bind o (λ zs. give zs)
-bind-give (ok zs st) = refl
-bind-give (no k) = refl
+-- `remainders` at union i
+abbrev rest : List ℕ → ℕ → Run (List ℕ)
+rest xs u = λ st. sole Union (without xs (membersAt (st .nodes) u)) st
 
-bind-behind : (o : Out (List ℕ)) (xs ys : List ℕ) → bind (bind o (λ zs. give (ys ++ zs))) (λ zs. give (xs ++ zs)) ≡ bind o (λ zs. give (xs ++ ys ++ zs))
-bind-behind (ok zs st) xs ys = ap (λ (l : List ℕ). ok l st) (sym (append-assoc xs ys zs))
-bind-behind (no k) xs ys = refl
-
--- what is left of the unions us, behind x
-abbrev restAfter : List ℕ → List ℕ → List ℕ → Run (List ℕ)
-restAfter xs us x = λ st. bind (remainders xs us st) (λ zs. give (x ++ zs))
-
-pub record Left (st : State) (xs ys w out : List ℕ) (k : ℕ) (q : Pass) (i : ℕ) : Type 0 where
-  pub now : State
-  pub got : List ℕ
-  pub stands : Stands now w q
-  pub more : length (st .nodes) ≤ length (now .nodes)
-  pub is : remainders xs ys st ≡ bind (remainders xs (drop i ys) now) (λ zs. give (got ++ zs))
-  pub gathered : Gathered out k got
-  pub short : length got ≤ i
-  pub below : Under (length (now .nodes)) got
-
-module _ {st : State} {xs ys w out : List ℕ} {k : ℕ} {q : Pass} {i u : ℕ} (l : Left st xs ys w out k q i) (lt : i < length ys) (e : u ≡ getD ys i 0) where
-  abbrev one : Out (List ℕ)
-  one = sole Union (without xs (membersAt (l .now .nodes) u)) (l .now)
-
-  left-next : remainders xs ys st ≡ bind (bind one (restAfter xs (drop (suc i) ys))) (λ zs. give (l .got ++ zs))
-  left-next =
-      l .is
-      ∙ ap (λ (zs : List ℕ). bind (remainders xs zs (l .now)) (λ zs. give (l .got ++ zs))) (drop-cons ys i 0 lt)
-      ∙ ap (λ (v : ℕ). bind (remainders xs (v ∷ drop (suc i) ys) (l .now)) (λ zs. give (l .got ++ zs))) (sym e)
-
-  left-more : {w′ out′ : List ℕ} {k′ : ℕ} {q′ : Pass} → Adds one w′ (l .got) out′ k′ q′ → Left st xs ys w′ out′ k′ q′ (i + 1)
-  left-more a =
-      let g = sole-gives Union (without xs (membersAt (l .now .nodes) u)) (l .now) (a .list) (a .after) (a .is) in
-      let m = g .more in
-      record {
-        now = a .after;
-        got = l .got ++ a .list;
-        stands = a .stands;
-        more = omega (arith, l .more);
-        is =
-            left-next
-            ∙ ap (λ (o : Out (List ℕ)). bind (bind o (restAfter xs (drop (suc i) ys))) (λ zs. give (l .got ++ zs))) (a .is)
-            ∙ bind-behind (remainders xs (drop (suc i) ys) (a .after)) (l .got) (a .list)
-            ∙ ap (λ (j : ℕ). bind (remainders xs (drop j ys) (a .after)) (λ zs. give (l .got ++ a .list ++ zs))) (sym (add-one i));
-        gathered = a .gathered;
-        short = omega (arith, length-append (l .got) (a .list), l .short, a .most);
-        below = under-both (length (a .after .nodes)) (l .got) (a .list) (under-most (length (l .now .nodes)) (length (a .after .nodes)) (l .got) m (l .below)) (a .below);
-      }
-
-  left-no : {j : ℕ} → one ≡ no j → remainders xs ys st ≡ no j
-  left-no z = left-next ∙ ap (λ (o : Out (List ℕ)). bind (bind o (restAfter xs (drop (suc i) ys))) (λ zs. give (l .got ++ zs))) z
+rest-loops : (xs : List ℕ) → Loops (rest xs) (remainders xs)
+rest-loops xs = record { none = λ st. refl; more = λ u us st. refl; keeps = λ u st. keeps-union (without xs (membersAt (st .nodes) u)) st }
 
 pub record Leaving (w₀ : List ℕ) (p : Pass) (ms : List ℕ) (n : ℕ) (us : List ℕ) (c : ℕ) (w out : List ℕ) (k : ℕ) (q : Pass) (i : ℕ) : Type 0 where
   pub few : i ≤ c
-  pub is : {st : State} {xs ys : List ℕ} → Stands st w₀ p → Taken (listOf n ms) xs (p .nodes) → Taken (listOf c us) ys (p .nodes) → Left st xs ys w out k q i
+  pub is : {st : State} {xs ys : List ℕ} → Stands st w₀ p → Taken (firstOf n ms) xs (p .nodes) → Taken (firstOf c us) ys (p .nodes) → Partway (remainders xs) ys st w q out k i
 
 module _ {w₀ : List ℕ} {p : Pass} {ms : List ℕ} {n : ℕ} {us : List ℕ} {c : ℕ} where
   pub leaving-start : Leaving w₀ p ms n us c w₀ (replicate mostMembers 0) 0 p 0
-  leaving-start =
-      record {
-        few = omega arith;
-        is = λ {st} {xs} {ys} on t m.
-            record {
-              now = st;
-              got = [];
-              stands = on;
-              more = omega arith;
-              is = bind-give (remainders xs ys st);
-              gathered = gathered-none (length-replicate {A = ℕ} mostMembers 0);
-              short = omega arith;
-              below = tt;
-            };
-      }
+  leaving-start = record { few = omega arith; is = λ on t m. partway-start on }
 
   module _ {w out w′ out′ : List ℕ} {k : ℕ} {q : Pass} {i u : ℕ} {g : Grown} (a : Leaving w₀ p ms n us c w out k q i) (lt : i < c) (e : u ≡ cell us i)
       (r : Remains w q ms n u out k w′ out′ g) where
-    step : {st : State} {xs ys : List ℕ} (on : Stands st w₀ p) (t : Taken (listOf n ms) xs (p .nodes)) (m : Taken (listOf c us) ys (p .nodes))
-        → AnswersGrown (one (a .is on t m) (omega (arith, m .list .count)) (few-at (m .list) e lt)) w′ (a .is on t m .got) out′ g
-    step on t m =
+    -- what the call gives for the union
+    called : {st : State} {xs ys : List ℕ} {h : Grown} → g ≡ h → (on : Stands st w₀ p) (t : Taken (firstOf n ms) xs (p .nodes)) (m : Taken (firstOf c us) ys (p .nodes))
+        → AnswersGrown (rest xs (getD ys i 0) (a .is on t m .now)) w′ (a .is on t m .got) out′ h
+    called {xs = xs} {ys = ys} z on t m =
         let l = a .is on t m in
         let x = on .arena .count in
         let y = l .stands .arena .count in
-        let z = l .more in
-        let f = m .list .few in
         let d = m .list .count in
-        r .is (l .stands) (taken-most (omega arith) t) (omega (arith, few-below m e lt)) (l .gathered) (omega (arith, l .short))
+        let f = m .list .few in
+        let low = later-length (l .later) in
+        subst (λ (h : Grown). AnswersGrown (rest xs (getD ys i 0) (l .now)) w′ (l .got) out′ h) z
+        (subst (λ (v : ℕ). AnswersGrown (rest xs v (l .now)) w′ (l .got) out′ g) (few-at (m .list) e lt)
+        (r .is (l .stands) (taken-most (omega arith) t) (omega (arith, few-below m e lt)) (l .gathered) (omega (arith, l .few))))
 
     pub leaving-more : {k′ : ℕ} {q′ : Pass} → g ≡ OnG k′ q′ → Leaving w₀ p ms n us c w′ out′ k′ q′ (i + 1)
     leaving-more z =
         record {
           few = omega arith;
-          is = λ {st} {xs} {ys} on t m.
-              let l = a .is on t m in
-              let le : i < length ys = omega (arith, m .list .count) in
-              let v : u ≡ getD ys i 0 = few-at (m .list) e lt in
-              left-more l le v (subst (λ (h : Grown). AnswersGrown (one l le v) w′ (l .got) out′ h) z (step on t m));
+          is = λ {st} {xs} {ys} on t m. partway-more (rest-loops xs) (a .is on t m) (omega (arith, m .list .count)) (called z on t m);
         }
 
-    pub leaves-refused : {j : ℕ} {res : Listed} → g ≡ RefusedG j → Refuses j res → Leaves w₀ p (listOf n ms) (listOf c us) w′ res
+    pub leaves-refused : {j : ℕ} {res : Listed} → g ≡ RefusedG j → Refuses j res → Leaves w₀ p (firstOf n ms) (firstOf c us) w′ res
     leaves-refused {j} {res} z f =
         record {
           is = λ {st} {xs} {us = ys} on t m.
-              let l = a .is on t m in
-              let le : i < length ys = omega (arith, m .list .count) in
-              let v : u ≡ getD ys i 0 = few-at (m .list) e lt in
               subst (λ (h : Flow). AnswersMore (p .nodes) (remainders xs ys st) w′ (res .members) h) (sym (f .is))
-              (left-no l le v (subst (λ (h : Grown). AnswersGrown (one l le v) w′ (l .got) out′ h) z (step on t m)));
+              (partway-no (rest-loops xs) (a .is on t m) (omega (arith, m .list .count)) (called z on t m));
         }
 
   pub leaves-done : {w out : List ℕ} {k : ℕ} {q : Pass} {i : ℕ} → Leaving w₀ p ms n us c w out k q i → c ≤ i
-      → Leaves w₀ p (listOf n ms) (listOf c us) w (record { flow = On q; members = listOf k out })
-  leaves-done {i = i} a le =
+      → Leaves w₀ p (firstOf n ms) (firstOf c us) w (record { flow = On q; members = firstOf k out })
+  leaves-done a le =
       record {
         is = λ {st} {xs} {us = ys} on t m.
             let l = a .is on t m in
-            let d = m .list .count in
-            (record {
-              after = l .now;
-              list = l .got;
-              is =
-                  l .is
-                  ∙ ap (λ (zs : List ℕ). bind (remainders xs zs (l .now)) (λ zs. give (l .got ++ zs))) (drop-of-length-le ys {i = i} (omega arith))
-                  ∙ ap (λ (zs : List ℕ). ok zs (l .now)) (append-nil (l .got));
-              stands = l .stands;
-              taken = record { list = gathered-few (l .gathered) (omega (arith, l .short, a .few, m .list .few)); below = l .below };
-            },
-            omega (arith, on .arena .count, l .stands .arena .count, l .more));
+            let d = m .list .count in (
+              record {
+                after = l .now;
+                list = l .got;
+                is = partway-done (rest-loops xs) l (omega arith);
+                stands = l .stands;
+                taken = record { list = gathered-few (l .gathered) (omega (arith, l .few, a .few, m .list .few)); below = l .below };
+              },
+              omega (arith, on .arena .count, l .stands .arena .count, later-length (l .later)),
+            );
       }
 
 -- `is_behind`
@@ -342,7 +211,7 @@ module _ {w ms : List ℕ} {n x : ℕ} where
         let z = drop-cons ys i 0 (omega (arith, m .list .count)) in
         ap (insert ns x) z
         ∙ ap (λ (v : Bool). if v (λ _. x ∷ getD ys i 0 ∷ drop (suc i) ys) (λ _. getD ys i 0 ∷ insert ns x (drop (suc i) ys)))
-            (ap (λ (k : ℕ). behind ns k x) (sym (few-at (m .list) e lt)) ∙ sym (t .is h (few-below m e lt) l))
+        (ap (λ (k : ℕ). behind ns k x) (sym (few-at (m .list) e lt)) ∙ sym (t .is h (few-below m e lt) l))
         ∙ ap (λ (d : List ℕ). if b (λ _. x ∷ d) (λ _. getD ys i 0 ∷ insert ns x (drop (suc i) ys))) (sym z)
 
     pub seeking-here : b ≡ true → Placed w ms n x i
@@ -352,7 +221,7 @@ module _ {w ms : List ℕ} {n x : ℕ} where
           is = λ {q} {ns} {ys} h m l.
               c .is h m l
               ∙ ap (λ (d : List ℕ). take i ys ++ d)
-                  (turn h m l ∙ ap (λ (v : Bool). if v (λ _. x ∷ drop i ys) (λ _. getD ys i 0 ∷ insert ns x (drop (suc i) ys))) z);
+              (turn h m l ∙ ap (λ (v : Bool). if v (λ _. x ∷ drop i ys) (λ _. getD ys i 0 ∷ insert ns x (drop (suc i) ys))) z);
         }
 
     pub seeking-more : b ≡ false → Seeking w ms n x (i + 1)
@@ -419,7 +288,7 @@ module _ {s₀ : List ℕ} {i n x : ℕ} where
               ap (λ (l : List ℕ). part l 0 (j + 1) ++ (y ∷ drop (j + 1) ys)) e
               ∙ ap (λ (m : ℕ). part (set s j v) 0 m ++ (y ∷ drop m ys)) (add-one j)
               ∙ ap₂ {C = List ℕ} (λ (a b : List ℕ). a ++ b) (put-at s j v (omega (arith, c .same, g .room)))
-                  (ap (λ (z : ℕ). z ∷ drop (suc j) ys) next ∙ sym (drop-cons ys j 0 (omega arith)))
+              (ap (λ (z : ℕ). z ∷ drop (suc j) ys) next ∙ sym (drop-cons ys j 0 (omega arith)))
               ∙ append-assoc (part s 0 j) (v ∷ []) (drop j ys)
               ∙ c .is g short le;
         }
@@ -432,10 +301,10 @@ module _ {s₀ : List ℕ} {i n x : ℕ} where
               let top = c .few le in
               let l = take i ys ++ (x ∷ drop i ys) in
               let z : part s′ 0 (suc j) ≡ l =
-                ap (λ (m : List ℕ). part m 0 (suc j)) e
-                ∙ put-at s j v (omega (arith, c .same, g .room))
-                ∙ ap (λ (d : List ℕ). part s 0 j ++ (v ∷ d)) (sym (drop-of-length-le ys {i = j} (omega arith)))
-                ∙ c .is g lt le in
+              ap (λ (m : List ℕ). part m 0 (suc j)) e
+              ∙ put-at s j v (omega (arith, c .same, g .room))
+              ∙ ap (λ (d : List ℕ). part s 0 j ++ (v ∷ d)) (sym (drop-of-length-le ys {i = j} (omega arith)))
+              ∙ c .is g lt le in
               let long : length l ≡ suc j = sym (ap length z) ∙ run-length (cell s′) 0 (suc j) in
               record {
                 count = omega arith;
@@ -468,8 +337,8 @@ into-snoc ns got (x ∷ xs) y = into-snoc ns (insert ns x got) xs y
 
 pub record Inserting (w ms : List ℕ) (n : ℕ) (out : List ℕ) (i : ℕ) : Type 0 where
   pub few : i ≤ n
-  pub is : {q : Pass} {ns : List Node} {xs : List ℕ} → Arena w q ns → Taken (listOf n ms) xs (length ns) → Gathered out i (sortInto ns [] (take i xs))
-  pub below : {q : Pass} {ns : List Node} {xs : List ℕ} → Arena w q ns → Taken (listOf n ms) xs (length ns) → Under (length ns) (sortInto ns [] (take i xs))
+  pub is : {q : Pass} {ns : List Node} {xs : List ℕ} → Arena w q ns → Taken (firstOf n ms) xs (length ns) → Gathered out i (sortInto ns [] (take i xs))
+  pub below : {q : Pass} {ns : List Node} {xs : List ℕ} → Arena w q ns → Taken (firstOf n ms) xs (length ns) → Under (length ns) (sortInto ns [] (take i xs))
 
 module _ {w ms : List ℕ} {n : ℕ} where
   pub inserting-start : Inserting w ms n (replicate mostMembers 0) 0
@@ -490,13 +359,13 @@ module _ {w ms : List ℕ} {n : ℕ} where
         below = λ {q} {ns} {xs} h m.
             subst (Under (length ns)) (next ns m) (insert-under ns (length ns) x (sortInto ns [] (take i xs)) (few-below m e lt) (c .below h m));
       } where
-    next : (ns : List Node) {xs : List ℕ} → Taken (listOf n ms) xs (length ns) → insert ns x (sortInto ns [] (take i xs)) ≡ sortInto ns [] (take (i + 1) xs)
-    next ns {xs} m =
-        let size = m .list .count in
-        ap (λ (v : ℕ). insert ns v (sortInto ns [] (take i xs))) (few-at (m .list) e lt)
-        ∙ sym (ap (λ (j : ℕ). sortInto ns [] (take j xs)) (add-one i) ∙ ap (sortInto ns []) (take-suc xs i 0 (omega arith)) ∙ into-snoc ns [] (take i xs) (getD xs i 0))
+        next : (ns : List Node) {xs : List ℕ} → Taken (firstOf n ms) xs (length ns) → insert ns x (sortInto ns [] (take i xs)) ≡ sortInto ns [] (take (i + 1) xs)
+        next ns {xs} m =
+            let size = m .list .count in
+            ap (λ (v : ℕ). insert ns v (sortInto ns [] (take i xs))) (few-at (m .list) e lt)
+            ∙ sym (ap (λ (j : ℕ). sortInto ns [] (take j xs)) (add-one i) ∙ ap (sortInto ns []) (take-suc xs i 0 (omega arith)) ∙ into-snoc ns [] (take i xs) (getD xs i 0))
 
-  pub inserting-done : {out : List ℕ} {i : ℕ} → Inserting w ms n out i → n ≤ i → Makes sort w (listOf n ms) (listOf n out)
+  pub inserting-done : {out : List ℕ} {i : ℕ} → Inserting w ms n out i → n ≤ i → Makes sort w (firstOf n ms) (firstOf n out)
   unfolding sort
   inserting-done {out} {i} c le =
       record {
@@ -590,8 +459,7 @@ module _ {w w₁ : List ℕ} {q : Pass} {parts : Members} {first : AtMostOne} {i
       record {
         is = λ {st} {xs} {ys} on t l.
             let a : Gives (sole Intersection ys st) w₁ (inner .members) r = inner-is e on l in
-            let g = sole-gives Intersection ys st (a .list) (a .after) (a .is) in
-            let m = g .more in
+            let m = later-length (keeps-intersection ys st (a .list) (a .after) (a .is)) in
             let d = a .stands .arena .count in
             subst (λ (o : Out (List ℕ)). Answers (bind o (λ z. sole Union (xs ++ z))) w′ res) (sym (a .is))
             (last .is (sole Union (xs ++ a .list) (a .after)) w′
@@ -647,7 +515,7 @@ module _ {w : List ℕ} {rests : Listed} {shared others : Members} where
 abbrev sharedOf : List Node → ℕ → List ℕ → List ℕ
 sharedOf ns u us = filter (λ (m : ℕ). all (λ (z : ℕ). contains (membersAt ns z) m) us) (membersAt ns u)
 
-module _ {w : List ℕ} {q : Pass} {unions shared : Members} (picks : Picks inAllOthers w (unions .at) (unions .count) (cell (unions .at) 0) shared) where
+module _ {w : List ℕ} {q : Pass} {unions shared : Members} (picks : Picks (picked InAllOthers) w (unions .at) (unions .count) (cell (unions .at) 0) shared) where
   shared-is : {st : State} {u v : ℕ} {us : List ℕ} → Stands st w q → Taken unions (u ∷ v ∷ us) (q .nodes)
       → Taken shared (sharedOf (st .nodes) u (v ∷ us)) (q .nodes)
   shared-is {st} {u} {v} {us} on t =
@@ -655,7 +523,7 @@ module _ {w : List ℕ} {q : Pass} {unions shared : Members} (picks : Picks inAl
       let z = holds-head (t .list .holds) in
       let b = t .below .0 in
       taken-most (omega arith)
-      (subst (λ (x : ℕ). Taken shared (filter (inAllOthers (st .nodes) (u ∷ v ∷ us)) (membersAt (st .nodes) x)) (length (st .nodes))) z
+      (subst (λ (x : ℕ). Taken shared (filter (picked InAllOthers (st .nodes) (u ∷ v ∷ us)) (membersAt (st .nodes) x)) (length (st .nodes))) z
       (picks .is (on .arena) (taken-most (omega arith) t) (omega arith)))
 
   none-turn : {st : State} {others all : Members} (ys zs l : List ℕ) → Stands st w q → Taken others ys (q .nodes) → Taken unions zs (q .nodes) → length ys + length zs ≤ mostMembers
@@ -697,11 +565,11 @@ module _ {w : List ℕ} {q : Pass} {unions shared : Members} (picks : Picks inAl
         }
 
 -- `factor_one`: all members of the union are kept
-filter-every : (ns : List Node) (ms : List ℕ) → filter (notAmong ns []) ms ≡ ms
+filter-every : (ns : List Node) (ms : List ℕ) → filter (picked NotAmong ns []) ms ≡ ms
 filter-every ns [] = refl
 filter-every ns (m ∷ ms) = ap (λ (l : List ℕ). m ∷ l) (filter-every ns ms)
 
-module _ {w w′ ms : List ℕ} {q : Pass} {u : ℕ} {whole : Members} {p : AtMostOne} {last : Listed} (picks : Picks notAmong w ms 0 u whole) (one : Soles 5 w q whole w′ p)
+module _ {w w′ ms : List ℕ} {q : Pass} {u : ℕ} {whole : Members} {p : AtMostOne} {last : Listed} (picks : Picks (picked NotAmong) w ms 0 u whole) (one : Soles 5 w q whole w′ p)
     (list : AsListed p last) where
   last-is : {f : Flow} {st : State} → last .flow ≡ f → Stands st w q → u < q .nodes → AnswersFlow (sole Union (membersAt (st .nodes) u) st) w′ (last .members) f
   last-is {f} {st} e on lt =
@@ -719,8 +587,7 @@ module _ {w w′ ms : List ℕ} {q : Pass} {u : ℕ} {whole : Members} {p : AtMo
       record {
         is = λ {st} {ys} on t few lt.
             let a : Gives (sole Union (membersAt (st .nodes) u) st) w′ (last .members) r = last-is e on lt in
-            let g = sole-gives Union (membersAt (st .nodes) u) st (a .list) (a .after) (a .is) in
-            let m = g .more in
+            let m = later-length (keeps-union (membersAt (st .nodes) u) st (a .list) (a .after) (a .is)) in
             let d = on .arena .count in
             record {
               after = a .after;
@@ -728,7 +595,7 @@ module _ {w w′ ms : List ℕ} {q : Pass} {u : ℕ} {whole : Members} {p : AtMo
               is = ap (λ (o : Out (List ℕ)). bind o (λ z. give (ys ++ z))) (a .is);
               stands = a .stands;
               taken = record {
-                list = j .is (few-lists (t .list)) (few-lists (a .taken .list)) .fit (omega (arith, length-append ys (a .list), g .most));
+                list = j .is (few-lists (t .list)) (few-lists (a .taken .list)) .fit (omega (arith, length-append ys (a .list), sole-most Union (membersAt (st .nodes) u) st (a .is)));
                 below = under-both (length (a .after .nodes)) ys (a .list) (under-most (q .nodes) (length (a .after .nodes)) ys (omega arith) (t .below)) (a .taken .below);
               };
             };

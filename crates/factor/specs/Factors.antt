@@ -21,6 +21,8 @@ use Rattle.members.specs.declared.lists.Grown.{Grown}
 use Rattle.members.specs.Lists.{Taken, Gives, Answers, Gathered, Wraps, AnswersPart, AnswersGrown, firstOf}
 use Rattle.members.specs.Flattens.{Listing}
 use Rattle.cells.specs.Placed.{Under}
+use Rattle.factor.specs.declared.Wanted.{Wanted}
+use Rattle.factor.specs.declared.Wanted.the-variants.{InAllOthers, NotAmong}
 
 -- x is a member of node u
 abbrev pub hasMember : ℕ → List Node → ℕ → Bool
@@ -30,11 +32,9 @@ hasMember x ns u = contains (membersAt ns u) x
 abbrev pub inOthers : ℕ → List Node → List ℕ → Bool
 inOthers x ns xs = all (hasMember x ns) (drop 1 xs)
 
-abbrev pub inAllOthers : List Node → List ℕ → ℕ → Bool
-inAllOthers ns xs x = inOthers x ns xs
-
-abbrev pub notAmong : List Node → List ℕ → ℕ → Bool
-notAmong ns xs x = not (contains xs x)
+abbrev pub picked : Wanted → List Node → List ℕ → ℕ → Bool
+picked InAllOthers ns xs x = inOthers x ns xs
+picked NotAmong ns xs x = not (contains xs x)
 
 -- the members of node u that the test f beside xs keeps
 pub record Picks (f : List Node → List ℕ → ℕ → Bool) (w ms : List ℕ) (n u : ℕ) (r : Members) : Type 0 where

@@ -1,11 +1,11 @@
 // Factoring: members that all unions of an intersection share come out of it.
 use cells::at;
 use cells::set;
-use lang_ty::arc_ty::Order;
 use lang_ty::arc_ty;
+use lang_ty::arc_ty::Order;
+use lang_ty::arena;
 use lang_ty::arena::OutputTy;
 use lang_ty::arena::Pass;
-use lang_ty::arena;
 use members::lists::AtMostOne;
 use members::lists::Flow;
 use members::lists::Grown;
@@ -16,15 +16,14 @@ use members::lists::contains;
 use members::lists::grow;
 use members::lists::joined;
 use members::lists::keep_if;
+use members::lists::members_of;
 use members::lists::of_kind;
 use members::lists::refused;
 use members::lists::sole;
 ghost use Rattle.rules.specs.Members.{factor-shared-from-intersection};
 ghost use Rattle.rules.specs.Order.{sort};
-ghost use Rattle.cells.specs.Part.{cell};
-ghost use Rattle.members.specs.Lists.{Makes, Tests, Runs, Asks};
-ghost use Rattle.members.specs.Lists.{firstOf, Pairs};
-ghost use Rattle.factor.specs.Factors.{hasMember, inOthers, inAllOthers, notAmong, Picks, Remains, Leaves, behind, Placed, PutIn, Inserts, Marked, SolesAny, FactorsParts, FactorsRests, FactorsUnions, FactorsOne};
+ghost use Rattle.members.specs.Lists.{Makes, Tests, Runs, Asks, Pairs, Beside, firstOf};
+ghost use Rattle.factor.specs.Factors.{hasMember, inOthers, picked, Picks, Remains, Leaves, behind, Placed, PutIn, Inserts, Marked, SolesAny, FactorsParts, FactorsRests, FactorsUnions, FactorsOne};
 
 // Whether every union of the list but the first has the member x.
 fn in_all_others(arena: &[u32], s: &[u32], n: u32, x: u32) -> bool
@@ -54,45 +53,52 @@ fn has_member(arena: &[u32], u: u32, x: u32) -> bool
     false
 }
 
-// The members of the first of the unions that all others have.
-fn shared_members(arena: &[u32], unions: Members) -> Members
-    ensures { λ r. ⌜ Picks inAllOthers (now (arena .entry)) (unions .at) (unions .count) (cell (unions .at) 0) r ⌝ }
-{
-    let s = unions.at;
-    let u = s[0];
-    let n = arena::count(arena, u);
-    let mut out = [0u32; 128];
-    let mut k = 0;
-    let mut i = 0;
-    while i < n {
-        let x = arena::member(arena, u, i);
-        k = keep_if(&mut out, k, x, in_all_others(arena, &s, unions.count, x));
-        i += 1;
-    }
-    Members { count: k, at: out }
+// Which members of a union are picked, beside a list: those that all but its first have, or those that are not in it.
+enum Wanted {
+    InAllOthers,
+    NotAmong,
 }
 
-// The members of union u that are not among the first n cells of s.
-fn unshared(arena: &[u32], s: &[u32], n: u32, u: u32) -> Members
-    ensures { λ r. ⌜ Picks notAmong (now (arena .entry)) (now (s .entry)) n u r ⌝ }
+fn is_picked(arena: &[u32], t: Wanted, s: &[u32], n: u32, x: u32) -> bool
+    ensures { λ r. ⌜ Beside (picked t) (now (arena .entry)) (now (s .entry)) n x r ⌝ }
 {
-    let c = arena::count(arena, u);
+    match t {
+        Wanted::InAllOthers => in_all_others(arena, s, n, x),
+        Wanted::NotAmong => !contains(s, n, x),
+    }
+}
+
+// The members of union u that are picked beside the first n cells of s.
+fn pick(arena: &[u32], t: Wanted, s: &[u32], n: u32, u: u32) -> Members
+    ensures { λ r. ⌜ Picks (picked t) (now (arena .entry)) (now (s .entry)) n u r ⌝ }
+{
+    let m = members_of(arena, u);
+    let ms = m.at;
+    let c = m.count;
     let mut out = [0u32; 128];
     let mut k = 0;
     let mut i = 0;
     while i < c {
-        let x = arena::member(arena, u, i);
-        k = keep_if(&mut out, k, x, !contains(s, n, x));
+        let x = at(&ms, i);
+        k = keep_if(&mut out, k, x, is_picked(arena, t, s, n, x));
         i += 1;
     }
     Members { count: k, at: out }
 }
 
 // What is left of union u without the first n cells of s, put behind the first k cells of out.
-fn remainder(arena: &mut [u32], q: Pass, s: &[u32], n: u32, u: u32, out: &mut [u32], k: u32) -> Grown
+fn remainder(
+    arena: &mut [u32],
+    q: Pass,
+    s: &[u32],
+    n: u32,
+    u: u32,
+    out: &mut [u32],
+    k: u32,
+) -> Grown
     ensures { λ r. ⌜ Remains (now (arena .entry)) q (now (s .entry)) n u (now (out .entry)) k (now (arena .exit)) (now (out .exit)) r ⌝ }
 {
-    let rest = unshared(arena, s, n, u);
+    let rest = pick(arena, Wanted::NotAmong, s, n, u);
     let part = sole(arena, q, OutputTy::UNION, rest);
     grow(out, k, part)
 }
@@ -254,7 +260,9 @@ fn factor_rests(arena: &mut [u32], rests: Listed, shared: Members, others: Membe
 fn factor_unions(arena: &mut [u32], q: Pass, others: Members, unions: Members) -> Listed
     ensures { λ r. ⌜ FactorsUnions (now (arena .entry)) q others unions (now (arena .exit)) r ⌝ }
 {
-    let shared = shared_members(arena, unions);
+    let s = unions.at;
+    let u = s[0];
+    let shared = pick(arena, Wanted::InAllOthers, &s, unions.count, u);
     if shared.count == 0 {
         let all = joined(others, unions);
         return Listed {
@@ -271,7 +279,7 @@ fn factor_one(arena: &mut [u32], q: Pass, others: Members, u: u32) -> Listed
     ensures { λ r. ⌜ FactorsOne (now (arena .entry)) q others u (now (arena .exit)) r ⌝ }
 {
     let s = [0u32; 128];
-    let whole = unshared(arena, &s, 0, u);
+    let whole = pick(arena, Wanted::NotAmong, &s, 0, u);
     let part = sole(arena, q, OutputTy::UNION, whole);
     let last = as_listed(part);
     let flow = last.flow;

@@ -83,7 +83,12 @@ held-base {f = On q} kept e z =
     let g = z .is in
     record {
       is = record {
-        after = g .after; list = g .list; is = g .is; stands = g .stands; keyed = g .keyed; kept = kept-both kept (g .kept);
+        after = g .after;
+        list = g .list;
+        is = g .is;
+        stands = g .stands;
+        keyed = g .keyed;
+        kept = kept-both kept (g .kept);
         held = record { count = sym e ∙ g .held .count; holds = g .held .holds };
       };
     }

@@ -116,10 +116,10 @@ module _ {table : List ℕ} {c : Canon} {free : ℕ} {p : runs.Pass} {t : Reader
       let fit : h + i < length work′ = omega arith in
       let put′ : work″ ≡ set work′ (h + i) x = put ∙ ap (λ (v : ℕ). set work′ v x) place in
       let other : (j : ℕ) → (j ≡ h + i → ⊥) → cell work″ j ≡ cell work′ j =
-            λ j ne. ap (λ (v : List ℕ). cell v j) put′ ∙ getD-set-other work′ (h + i) j x 0 ne in
+      λ j ne. ap (λ (v : List ℕ). cell v j) put′ ∙ getD-set-other work′ (h + i) j x 0 ne in
       let parts : part work″ h (suc i) ≡ part work h i ++ (x ∷ []) =
-            ap (λ (v : List ℕ). part v h (suc i)) put′ ∙ part-set-snoc work′ h i x fit
-            ∙ ap (λ (l : List ℕ). l ++ (x ∷ [])) (run-ext (cell work′) (cell work) h i (λ j lo hi. a .kept .is j (omega arith) (omega arith))) in
+      ap (λ (v : List ℕ). part v h (suc i)) put′ ∙ part-set-snoc work′ h i x fit
+      ∙ ap (λ (l : List ℕ). l ++ (x ∷ [])) (run-ext (cell work′) (cell work) h i (λ j lo hi. a .kept .is j (omega arith) (omega arith))) in
       let went = poised-mover free po b (sideOf i first pol) (mid .now) (poised-entry po (id-below lt e)) (poised-firm poised-now (mid .stands)) x (a .after) (a .is) in
       record {
         now = a .after;

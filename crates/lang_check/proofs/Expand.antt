@@ -19,9 +19,9 @@ use Rattle.rules.specs.Canonicalizer as runs
 use Rattle.laws.specs.Sound.{Tabled}
 use Rattle.rules.specs.declared.Polarity.{Polarity}
 use Rattle.rules.specs.declared.Polarity.the-variants.{Positive, Negative}
-use Rattle.laws.proofs.Keeping.{Later, later-none, parted, gave, refused-not, Keeps, keeps-give, keeps-bind, keeps-variable, keeps-concrete, keeps-flattened, keeps-normalized, keeps-preserving, filter-short}
-use Rattle.laws.proofs.Rooting.{under-front, under-back}
+use Rattle.laws.proofs.Keeping.{Later, later-none, parted, gave, refused-not, Keeps, keeps-give, keeps-bind, keeps-variable, keeps-concrete, keeps-flattened, keeps-normalized, keeps-preserving}
 use Rattle.laws.proofs.Moving.{Moved, moved-later, moved-both, Firm, Goer, Any, any-stays, begin-known, distinct-known, goes-note, goes-each, goes-expansion}
+use Rattle.laws.proofs.Filtering.{under-front, under-back, filter-length}
 use Rattle.lang_ty.specs.declared.arena.Pass.{Pass}
 use Rattle.lang_ty.specs.declared.arena.Given.{Given}
 use Rattle.lang_ty.specs.declared.arena.Given.the-variants.{Node as NodeG, Refused}
@@ -39,6 +39,7 @@ use Rattle.storage.specs.Entries.{NamedIs, NamedBound}
 use Rattle.storage.specs.Vars.{IsVariable, ownEnd, Expanded}
 use Rattle.storage.specs.declared.held.Own.{Own}
 use Rattle.storage.specs.Helds.{HeldList, Deduplicates, BeginsList, OwnBounds, concretes, ownRule}
+use Rattle.storage.proofs.HeldBounds.{bounds-short}
 use Rattle.composites.specs.declared.lists.Settled.{Settled}
 use Rattle.composites.specs.declared.lists.Settled.the-variants.{Node as NodeS, Empty as EmptyS, Refused as RefusedS}
 use Rattle.composites.specs.Places.{Settles, boundsEnd, Normalizes}
@@ -48,12 +49,12 @@ use Rattle.lang_check.proofs.Poised.{poised-firm, poised-mover, poised-
 use Rattle.cells.specs.Placed.{Under}
 
 -- a visit of all in one polarity
-pub visited-each : (v : Visit) (pol : Polarity) (bs : List ℕ) (st : State) → visited v pol pol bs st ≡ each (λ (b : ℕ). v b pol) bs st
+visited-each : (v : Visit) (pol : Polarity) (bs : List ℕ) (st : State) → visited v pol pol bs st ≡ each (λ (b : ℕ). v b pol) bs st
 visited-each v pol [] st = refl
 visited-each v pol (b ∷ bs) st = refl
 
 -- steps 2 to 5 only store, if what follows them does
-pub keeps-boundsEnd : (p : runs.Pass) (pol : Polarity) (xs : List ℕ) (rest : List ℕ → Run ℕ) → ((ys : List ℕ) → Keeps (rest ys)) → Keeps (boundsEnd p pol xs rest)
+keeps-boundsEnd : (p : runs.Pass) (pol : Polarity) (xs : List ℕ) (rest : List ℕ → Run ℕ) → ((ys : List ℕ) → Keeps (rest ys)) → Keeps (boundsEnd p pol xs rest)
 keeps-boundsEnd p pol xs rest k =
     keeps-bind (flattened (compositeKind pol) xs) _ (keeps-flattened (compositeKind pol) xs)
     (λ ys. keeps-bind (concreteOf p ys) _ (keeps-concrete p ys) (λ ms. keeps-normalized p (rest ys) pol ms (k ys)))
@@ -83,7 +84,7 @@ module _ (p : runs.Pass) (v : Visit) (bs : List ℕ) (pol : Polarity) (st : Stat
       expand-is rest ∙ ap (λ (o : Out (List ℕ)). bind o (λ (xs : List ℕ). boundsEnd p pol xs (λ _. rest))) (sym (visited-each v pol (deduplicated bs) st))
 
 -- the cells below h did not change, so the lists held below it did not either
-pub kept-below : {h : ℕ} (work work′ : List ℕ) → ((k : ℕ) → k < h → cell work′ k ≡ cell work k) → KeptBelow h work work′
+kept-below : {h : ℕ} (work work′ : List ℕ) → ((k : ℕ) → k < h → cell work′ k ≡ cell work k) → KeptBelow h work work′
 kept-below work work′ same = record { is = λ k lo hi. same k hi }
 
 -- steps 2 to 5 of answers
@@ -98,9 +99,10 @@ module _ (p : runs.Pass) (pol : Polarity) (o : Out (List ℕ)) (h : ℕ) (work w
   gathered-keyed (On q) a x st e =
       let g = a .is in
       let l = keeps-boundsEnd p pol (g .list) (λ _. give 0) (λ _. keeps-give 0) (g .after) x st
-          (ap (λ (z : Out (List ℕ)). ended p pol z (λ _. give 0)) (sym (g .is)) ∙ e) in
-      (keyed-cells (keyed-later l (g .keyed)) (λ k lt. kept k (omega arith)),
-       kept-both (kept-below work work1 same) (kept-both (g .kept) (kept-below work2 work3 kept)))
+      (ap (λ (z : Out (List ℕ)). ended p pol z (λ _. give 0)) (sym (g .is)) ∙ e) in (
+        keyed-cells (keyed-later l (g .keyed)) (λ k lt. kept k (omega arith)),
+        kept-both (kept-below work work1 same) (kept-both (g .kept) (kept-below work2 work3 kept)),
+      )
   gathered-keyed (RefusedF k) a x st e = refused-not (ap (λ (z : Out (List ℕ)). ended p pol z (λ _. give 0)) (sym (a .is)) ∙ e)
 
   gathers-by : {n m : ℕ} {w w1 : List ℕ} (F : Run ℕ → Out ℕ) → ((rest : Run ℕ) → F rest ≡ ended p pol o (λ _. rest)) → (f : Flow) (r : Settled)
@@ -134,7 +136,7 @@ module _ {table : List ℕ} {c : Canon} {w work : List ℕ} {free h : ℕ} {q : 
             let o = visited v pol pol (deduplicated bs) st in
             let a = ea .is po1 on (d .list) u1 in
             let e = nz .is o (knows-given (po .knows)) (visited-held (visited (visit free p t) pol pol (deduplicated bs) st) f po1 size2
-                (goes-visited p t (po .tabled) (visit free p t) (poised-mover free po) pol pol (deduplicated bs) st (poised-under (deduplicated bs) po u1) (poised-firm po on)) a .visits) (poised-roomy po1 size2) in
+            (goes-visited p t (po .tabled) (visit free p t) (poised-mover free po) pol pol (deduplicated bs) st (poised-under (deduplicated bs) po u1) (poised-firm po on)) a .visits) (poised-roomy po1 size2) in
             gathers-by p pol o h work work1 work2 work3 behind (d .kept) (nz .kept) (λ (rest : Run ℕ). expand-bounds p v rest bs pol st) (expand-visited p v bs pol st) f r a e;
       }
 
@@ -148,14 +150,14 @@ expand-moves p t b v mv bs pol st u f x st′ e =
     moved-both (g .moved) (moved-later l)
 
 -- the answer of a step from a slice on with the same lists held
-pub answers-kept : {o : Out ℕ} {n : ℕ} {w work work1 work2 : List ℕ} {h : ℕ} {r : Given} → KeptBelow h work work1 → Answers o n w work1 work2 h r → Answers o n w work work2 h r
+answers-kept : {o : Out ℕ} {n : ℕ} {w work work1 work2 : List ℕ} {h : ℕ} {r : Given} → KeptBelow h work work1 → Answers o n w work1 work2 h r → Answers o n w work work2 h r
 answers-kept {r = NodeG x q} k a =
     let g = a .is in
     record { is = record { after = g .after; is = g .is; stands = g .stands; keyed = g .keyed; kept = kept-both k (g .kept) } }
 answers-kept {r = Refused j} k a = record { is = a .is }
 
 -- bounds that are no more than the ids of their variable
-pub poised-bounds : {table : List ℕ} {c : Canon} {work : List ℕ} {h own n : ℕ} {p : runs.Pass} {t : Reader} {st : State} {bs : List ℕ} → Poised table c work h own p t st
+poised-bounds : {table : List ℕ} {c : Canon} {work : List ℕ} {h own n : ℕ} {p : runs.Pass} {t : Reader} {st : State} {bs : List ℕ} → Poised table c work h own p t st
     → HeldList work h n bs → length bs ≤ own → Poised table c work h n p t st
 poised-bounds {h = h} {n = n} po hl le = let e = hl .count in poised-place po {h′ = h} {own′ = n} (po .roomed .behind) (omega arith)
 
@@ -170,7 +172,7 @@ module _ {table : List ℕ} {c : Canon} {w work : List ℕ} {free h : ℕ} {q : 
   pub expands-node : {g : Settled} {x : ℕ} {q1 : Pass} → Gathered table c w work free h q n pol w1 work1 g → g ≡ NodeS x q1
       → Expands table c w work free h q ch begun n id pol w1 work1 (NodeG x q1)
   expands-node ga0 e =
-    let ga = gathered-as e ga0 in
+      let ga = gathered-as e ga0 in
       record {
         is = λ {p} {t} {st} {bs} va po on lt hl u le.
             let g = ga .is (poised-bounds po hl le) on hl u .is in
@@ -181,7 +183,7 @@ module _ {table : List ℕ} {c : Canon} {w work : List ℕ} {free h : ℕ} {q : 
   pub expands-empty : {g : Settled} {y : Found} {q1 : Pass} {w2 work2 : List ℕ} {r : Given} → Gathered table c w work free h q n pol w1 work1 g → g ≡ EmptyS y q1 → length work1 ≡ length work
       → FallsBackTo table c w1 work1 free h q1 ch begun id pol w2 work2 r → Expands table c w work free h q ch begun n id pol w2 work2 r
   expands-empty ga0 e size fa =
-    let ga = gathered-as e ga0 in
+      let ga = gathered-as e ga0 in
       record {
         is = λ {p} {t} {st} {bs} va po on lt hl u le.
             let g = ga .is (poised-bounds po hl le) on hl u .is in
@@ -194,7 +196,7 @@ module _ {table : List ℕ} {c : Canon} {w work : List ℕ} {free h : ℕ} {q : 
   pub expands-refused : {g : Settled} {k : ℕ} → Gathered table c w work free h q n pol w1 work1 g → g ≡ RefusedS k
       → Expands table c w work free h q ch begun n id pol w1 work1 (Refused k)
   expands-refused ga0 e =
-    let ga = gathered-as e ga0 in
+      let ga = gathered-as e ga0 in
       record { is = λ {p} {t} {st} {bs} va po on lt hl u le. record { is = ga .is (poised-bounds po hl le) on hl u .is _ } }
 
 -- the list that a fallback begins is no longer than the ids of its variable
@@ -230,7 +232,7 @@ unmarked-short false xs = omega arith
 
 begin-short : (p : runs.Pass) (t : Reader) (id : ℕ) (pol : Polarity) → length (beginList p t id pol) ≤ length (kids (t id))
 begin-short p t id Negative = omega (arith, unmarked-short (p .marked id || p .marked (p .rep id)) (lowers (t id)), lowers-short (t id))
-begin-short p t id Positive = omega (arith, filter-short (λ (b : ℕ). isAtom t (t b)) (uppers (t id)), uppers-short (t id))
+begin-short p t id Positive = omega (arith, filter-length (λ (b : ℕ). isAtom t (t b)) (uppers (t id)), uppers-short (t id))
 
 -- a list is empty if its length is 0
 empty-length : {A : Type 0} (xs : List A) → empty xs ≡ eqb (length xs) 0
@@ -259,7 +261,7 @@ module _ (p : runs.Pass) (t : Reader) (v : Visit) (g : runs.Begun) (id : ℕ) (p
       ∙ ap (λ (y : Bool). if y (λ _. variable p id) (λ _. begins (ch - 1)) st) e
 
 -- a variable's own node, from a slice on in which only cells from h on changed
-pub answers-variable : {table : List ℕ} {c : Canon} {work : List ℕ} {h own : ℕ} {p : runs.Pass} {t : Reader} {st : State} {w : List ℕ} {q : Pass}
+answers-variable : {table : List ℕ} {c : Canon} {work : List ℕ} {h own : ℕ} {p : runs.Pass} {t : Reader} {st : State} {w : List ℕ} {q : Pass}
     {id : ℕ} {w′ : List ℕ} {r : Given} (work′ : List ℕ) → ((k : ℕ) → k < h → cell work′ k ≡ cell work k) → Poised table c work h own p t st → Stands st w q
     → IsVariable table c w q id w′ r → Answers (variable p id st) (p .count) w′ work work′ h r
 answers-variable {work = work} {h = h} {p = p} {st = st} {id = id} work′ same po on v =
@@ -334,7 +336,7 @@ stores-of (NodeG x q) below a =
 stores-of (Refused k) below a = record { is = a .is }
 
 -- what follows a step of the cycle and only stores
-pub answers-end : {o o′ : Out ℕ} {n : ℕ} {w w′ work work′ : List ℕ} {h : ℕ} (g r : Given) → ((y : ℕ) (st1 : State) (x : ℕ) (st2 : State) → o ≡ ok y st1 → o′ ≡ ok x st2 → Later st1 st2)
+answers-end : {o o′ : Out ℕ} {n : ℕ} {w w′ work work′ : List ℕ} {h : ℕ} (g r : Given) → ((y : ℕ) (st1 : State) (x : ℕ) (st2 : State) → o ≡ ok y st1 → o′ ≡ ok x st2 → Later st1 st2)
     → ((k x : ℕ) (st2 : State) → o ≡ no k → o′ ≡ ok x st2 → ⊥) → Answers o n w work work′ h g → Stores o′ w′ r → Answers o′ n w′ work work′ h r
 answers-end (NodeG y q) (NodeG x q1) later never a d =
     let v = a .is in
@@ -438,10 +440,6 @@ module _ {table : List ℕ} {c : Canon} {work : List ℕ} {h : ℕ} {p : runs.Pa
   named-found : {v : ℕ} {r : Found} → NamedBound table c v r → BoundsAt table v l u → NamedIs (c .count) t (l ++ u) r
   named-found nb ba = nb .is (po .knows .reads) ba (under-front (c .count) l u bounds-under) (under-back (c .count) l u bounds-under)
 
-bounds-short : (pol : Polarity) (l u : List ℕ) → length (boundsOf pol l u) ≤ length l + length u
-bounds-short Positive l u = omega arith
-bounds-short Negative l u = omega arith
-
 module _ {table : List ℕ} {c : Canon} {w work : List ℕ} {free h : ℕ} {q : Pass} {id v : ℕ} {pol : Polarity} {r : Given} where
   -- a Named bound
   pub inner-named : {f : Found} {b : ℕ} {w′ work′ : List ℕ} → NamedBound table c v f → f ≡ At b → Visits table c w work free h q b pol w′ work′ r
@@ -461,8 +459,8 @@ module _ {table : List ℕ} {c : Canon} {w work : List ℕ} {free h : ℕ} {q : 
     pub inner-variable : {f : Found} {o : Own} {w′ : List ℕ} → NamedBound table c v f → f ≡ Nowhere → Notes table c work id pol work1 → OwnBounds table c work1 h id v pol work2 o → o ≡ Variable
         → IsVariable table c w q id w′ r → Inner table c w work free h q id v pol w′ work2 r
     inner-variable nb0 d nt ow0 d′ va =
-      let nb = subst (λ (z : Found). NamedBound table c v z) d nb0 in
-      let ow = subst (λ (z : Own). OwnBounds table c work1 h id v pol work2 z) d′ ow0 in
+        let nb = subst (λ (z : Found). NamedBound table c v z) d nb0 in
+        let ow = subst (λ (z : Own). OwnBounds table c work1 h id v pol work2 z) d′ ow0 in
         record {
           is = λ {p} {t} {st} {l} {u} e ba po on lt.
               let z = visit free p t in
@@ -480,8 +478,8 @@ module _ {table : List ℕ} {c : Canon} {w work : List ℕ} {free h : ℕ} {q : 
         → Expands table c w work2 free h q 4 none n id pol w1 work3 g → Expanded table c w1 g id pol kept w2 r
         → Inner table c w work free h q id v pol w2 work3 r
     inner-bounds {n = n} {kept = kept} {none = none} {g = g} nb0 d nt ow0 d′ size nn ex vars =
-      let nb = subst (λ (z : Found). NamedBound table c v z) d nb0 in
-      let ow = subst (λ (z : Own). OwnBounds table c work1 h id v pol work2 z) d′ ow0 in
+        let nb = subst (λ (z : Found). NamedBound table c v z) d nb0 in
+        let ow = subst (λ (z : Own). OwnBounds table c work1 h id v pol work2 z) d′ ow0 in
         record {
           is = λ {p} {t} {st} {l} {u} e ba po on lt.
               let z = visit free p t in
@@ -498,10 +496,10 @@ module _ {table : List ℕ} {c : Canon} {w work : List ℕ} {free h : ℕ} {q : 
               let po2 = poised-slice po1 size (λ k low. ow .kept k (omega arith)) in
               let a0 = ex .is (ap isVariable e) po2 on1 lt (f .held) (subst (λ (m : ℕ). Under m xs) (po .knows .count) below) few in
               let a = answers-kept (kept-both (kept-noted po on lt pol nt) (kept-below work1 work2 (ow .kept)))
-                  (answers-out (ap (λ (y : runs.Begun). expand-bounds p z (expand-bounds-empty-fallback 4 p t z y id pol) xs pol st1) (nn .is)) a0) in
+              (answers-out (ap (λ (y : runs.Begun). expand-bounds p z (expand-bounds-empty-fallback 4 p t z y id pol) xs pol st1) (nn .is)) a0) in
               let went = goes-expansion p t (po .tabled) Any any-stays z (poised-mover free po) id xs pol st1 (poised-entry po lt) below (poised-firm po1 on1) in
               answers-out (sym (inner-missed p t z id l u pol st (named-found e po lt nb ba (λ (b : ℕ). z b pol) (missed p t z id l u pol st)) ∙ ap (λ (m : Run ℕ). m st1) (f .is z)
-                  ∙ own-is p id pol t z xs kept st1))
+              ∙ own-is p id pol t z xs kept st1))
               (answers-end g r
               (λ y s3 x s4 i j. own-later p id pol kept y s3 x s4 (ap (ownEnd p id pol kept) (sym i) ∙ j))
               (λ k x s4 i j. own-refused p id pol kept k x s4 (ap (ownEnd p id pol kept) (sym i) ∙ j)) a

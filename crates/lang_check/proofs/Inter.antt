@@ -128,10 +128,11 @@ module _ {table : List ℕ} {c : Canon} {w work : List ℕ} {free h : ℕ} {q : 
             answers-out
             (sym (inter-retry p t v a b pol ys st ∙ ap (λ (z : Polarity). turn z (turned (t b) pol)) (sym (ta .is (po .knows .reads) la)) ∙ ap (turn pa) (sym (tb .is (po .knows .reads) lb))))
             (answers-after
-            (λ x after e. let pt = parted seen (λ (xs : List ℕ). interSecond p pol ys xs (λ _. store Bottom)) st x after e in
-            (poised-later (poised-slice (pr .ready (pt .value) (pt .between) (pt .first)) len3 (λ k lt. try .kept k (omega arith)))
-            (keeps-second p pol ys (pt .value) (λ _. store Bottom) (λ _. keeps-store Bottom tt) (pt .between) x after (pt .second)) .keyed,
-            kept-both (pr .kept (pt .value) (pt .between) (pt .first)) (record { is = λ k lo hi. try .kept k hi })))
+            (λ x after e. let pt = parted seen (λ (xs : List ℕ). interSecond p pol ys xs (λ _. store Bottom)) st x after e in (
+              poised-later (poised-slice (pr .ready (pt .value) (pt .between) (pt .first)) len3 (λ k lt. try .kept k (omega arith)))
+                  (keeps-second p pol ys (pt .value) (λ _. store Bottom) (λ _. keeps-store Bottom tt) (pt .between) x after (pt .second)) .keyed,
+              kept-both (pr .kept (pt .value) (pt .between) (pt .first)) (record { is = λ k lo hi. try .kept k hi }),
+            ))
             (re .is F (try .twice (seen st) ys y (knows-given (po .knows)) (pr .visits) (poised-roomy po (len2 ∙ len1)) refl first
             (λ xs st′ e. moved-under ys (pr .moved xs st′ e) below))));
       }

@@ -7,48 +7,43 @@ use native.Mathlib.Omega.{arith}
 use native.Mathlib.Nat.{eq-or-lt-of-le}
 use native.Mathlib.Numerals.{add-one}
 use mathlib.Core.List.{List, [], _∷_, _++_}
-use lib.ListN.{length, set, replicate, length-set}
+use lib.ListN.{length, set, length-set}
 use lib.Seq.{getD-set-same, getD-set-other}
 use lib.Dec.{eqb, ltb}
 use borrow.Author.Tests.{ltb-true, ltb-false, eq-eqb, ne-eqb}
 use Rattle.cells.specs.Part.{if, cell, part}
 use Rattle.cells.specs.Sum.{Sum}
 use Rattle.cells.specs.Clears.{Clears}
-use Rattle.cells.proofs.Parts.{run-snoc}
+use Rattle.cells.proofs.Parts.{run-snoc, cell-zero}
 use Rattle.cells.proofs.Holding.{holds-from}
+use Rattle.cells.proofs.Choices.{true-false, if-self}
 use Rattle.layout.specs.Layout.{bitsAt, heldAt, preservedAt, seenAt, marksAt, arenaWords}
 use Rattle.rules.specs.Plain.{any}
 use Rattle.rules.specs.Ceilings.{mostOperations, mostEntries}
-use Rattle.rules.specs.Types.{State, ok, no}
+use Rattle.rules.specs.Types.{State, ok}
 use Rattle.rules.specs.Canonicalizer.{Reader, isBoth, fresh, pass, shown, afterFirst, afterSecond, withSet, canonicalize, visit}
 use Rattle.rules.specs.Canonicalizer as runs
 use Rattle.laws.specs.Sound.{Tabled}
 use Rattle.rules.specs.declared.Polarity.{Polarity}
-use Rattle.laws.proofs.Storing.{true-false, Rooted, rooted-none}
-use Rattle.laws.proofs.Keeping.{refused-not}
+use Rattle.laws.proofs.Storing.{Rooted, rooted-none}
 use Rattle.laws.proofs.Loading.{load-fresh}
 use Rattle.laws.proofs.Moving.{Moved, visit-moves, steady-fresh}
 use Rattle.lang_ty.specs.declared.arena.Pass.{Pass}
 use Rattle.lang_ty.specs.declared.arena.Given.{Given}
+use Rattle.lang_ty.specs.declared.arena.Shown.{Shown}
 use Rattle.lang_ty.specs.declared.arena.Given.the-variants.{Node as NodeG, Refused}
 use Rattle.lang_ty.specs.Nodes.{Stands, Answers as Stores}
 use Rattle.lang_ty.proofs.Stores.{stands-none}
 use Rattle.storage.proofs.Alike.{reads-alike}
 use Rattle.storage.specs.declared.given.Canon.{Canon}
 use Rattle.storage.specs.Passes.{repOf, Reps, Knows}
-use Rattle.lang_check.specs.declared.collect.Shown.{Shown}
 use Rattle.lang_check.specs.declared.collect.RootAnswer.{RootAnswer}
 use Rattle.lang_check.specs.declared.collect.RootAnswer.the-variants.{Shown as ShownR, Refused as RefusedR}
 use Rattle.lang_check.specs.Cycle.{Keyed, Poised, Answers, Visits}
-use Rattle.lang_check.specs.Roots.{NoneCounted, LentTo, OnePass, PreservesIf, Or, Detects, RootIs, SecondShown, NonePreserved, Canonicalizes}
+use Rattle.lang_check.specs.Roots.{NoneCounted, LentTo, OnePass, PreservesIf, Or, Detects, RootIs, firstOf, FirstShown, SecondShown, NonePreserved, Canonicalizes}
 use Rattle.lang_check.proofs.Poised.{answers-out}
 use Rattle.lang_check.proofs.Expand.{stores-of}
 use Rattle.lang_check.proofs.Answered.{answers-base}
-
-cell-zero : (n k : ℕ) → cell (replicate n 0) k ≡ 0
-cell-zero zero k = refl
-cell-zero (suc n) zero = refl
-cell-zero (suc n) (suc k) = cell-zero n k
 
 pass-is : (p : runs.Pass) (t : Reader) (id : ℕ) (pol : Polarity) → pass p t id pol ≡ visit 96 p t id pol (fresh (p .count))
 unfolding pass
@@ -70,19 +65,19 @@ module _ {table : List ℕ} {c : Canon} {w w1 work work1 work2 work3 : List ℕ}
             let size = ap length e ∙ length-set w 0 arenaWords in
             let arena = lent .arena in
             let keyed : Keyed (p .count) (fresh (p .count)) work3 =
-                record {
-                  keys = λ i l. d .before i (omega arith) ∙ b .before i (omega arith) ∙ a .zero i (omega arith) (omega arith) ∙ sym (cell-zero (2 * p .count) i);
-                  bits = λ i l. d .before (bitsAt + i) (omega arith) ∙ b .zero (bitsAt + i) (omega arith) (omega arith) ∙ sym (cell-zero (p .count) i);
-                  unseen = record { few = omega arith; is = λ i l. d .zero (seenAt + i) (omega arith) (omega arith) };
-                } in
+            record {
+              keys = λ i l. d .before i (omega arith) ∙ b .before i (omega arith) ∙ a .zero i (omega arith) (omega arith) ∙ sym (cell-zero (2 * p .count) i);
+              bits = λ i l. d .before (bitsAt + i) (omega arith) ∙ b .zero (bitsAt + i) (omega arith) (omega arith) ∙ sym (cell-zero (p .count) i);
+              unseen = record { few = omega arith; is = λ i l. d .zero (seenAt + i) (omega arith) (omega arith) };
+            } in
             let poised : Poised table c work3 heldAt 0 p t (fresh (p .count)) =
-                record {
-                  knows = k;
-                  tabled = tb;
-                  keyed = keyed;
-                  steady = steady-fresh (p .count);
-                  roomed = record { behind = omega arith; fits = omega arith; long = omega arith };
-                } in
+            record {
+              knows = k;
+              tabled = tb;
+              keyed = keyed;
+              steady = steady-fresh (p .count);
+              roomed = record { behind = omega arith; fits = omega arith; long = omega arith };
+            } in
             let first : cell w1 0 ≡ arenaWords = ap (λ (l : List ℕ). cell l 0) e ∙ getD-set-same w 0 arenaWords 0 (omega arith) in
             let on : Stands (fresh (p .count)) w1 q = stands-none refl refl (sym (none .ops)) (sym (none .sorted)) (sym (none .bailed)) (none .nodes) (none .cells) first (omega arith) in
             let ans = v .is poised on lt in
@@ -115,16 +110,12 @@ detecting-start {table} =
       is = record { is = refl; seen = λ v l. absurd (omega arith); unseen = λ v e. refl; before = λ k l. refl; behind = λ k l. refl; none = λ e. refl };
     }
 
-any-one : (b : Bool) → if b (λ _. true) (λ _. false) ≡ b
-any-one true = refl
-any-one false = refl
-
 any-turn : (b : Bool) (x y z : Bool) → y ≡ z || x → if b (λ _. true) (λ _. y) ≡ if b (λ _. true) (λ _. z) || x
 any-turn true x y z e = refl
 any-turn false x y z e = e
 
 any-snoc : (xs : List ℕ) (x : ℕ) → any isBoth (xs ++ (x ∷ [])) ≡ any isBoth xs || isBoth x
-any-snoc [] x = any-one (isBoth x)
+any-snoc [] x = if-self (isBoth x)
 any-snoc (y ∷ xs) x = any-turn (isBoth y) (isBoth x) (any isBoth (xs ++ (x ∷ []))) (any isBoth xs) (any-snoc xs x)
 
 or-none : (a b : Bool) → a || b ≡ false → (a ≡ false) × (b ≡ false)
@@ -180,22 +171,45 @@ detecting-done {table₀} {work} {count} {table} {found} {i} d le =
 abbrev shownIn : ℕ → ℕ → Bool → Bool → ℕ → Shown
 shownIn passes ops sorted bailed x = record { passes = passes; ops = ops; sorted = sorted; bailed = bailed; node = x }
 
-pub second-node : {y : Given} {x : ℕ} {q first : Pass} {ops : ℕ} {sorted : Bool} → y ≡ NodeG x q → Sum (first .ops) (q .ops) ops → Or (first .sorted) (q .sorted) sorted
-    → SecondShown y first (ShownR (shownIn 2 ops sorted (q .bailed) x))
-second-node {y} {x} {q} {first} {ops} {sorted} d sum o =
+-- each way out of `first_shown`
+pub first-node : {y : Given} {x : ℕ} {q : Pass} → y ≡ NodeG x q → FirstShown y (ShownR (shownIn 1 (q .ops) (q .sorted) (q .bailed) x))
+first-node d = record { is = sym (ap firstOf d) }
+
+pub first-refused : {y : Given} {k : ℕ} → y ≡ Refused k → FirstShown y (RefusedR k)
+first-refused d = record { is = sym (ap firstOf d) }
+
+-- the first pass's answer opened: a node and what was counted, or the refusal
+record Opened (g : Given) (s : Shown) : Type 0 where
+  pub pass : Pass
+  pub is : g ≡ NodeG (s .node) pass
+  pub shows : s ≡ shownIn 1 (pass .ops) (pass .sorted) (pass .bailed) (s .node)
+
+opened : (g : Given) {s : Shown} → firstOf g ≡ ShownR s → Opened g s
+opened (NodeG x q) {s} e =
+    let z : shownIn 1 (q .ops) (q .sorted) (q .bailed) x ≡ s = cc in
+    subst (Opened (NodeG x q)) z (record { pass = q; is = refl; shows = refl })
+opened (Refused k) {s} e = absurd (let z : _≡_ {A = ℕ} 0 1 = cc in omega arith)
+
+refused-first : (g : Given) {k : ℕ} → firstOf g ≡ RefusedR k → g ≡ Refused k
+refused-first (NodeG x q) {k} e = absurd (let z : _≡_ {A = ℕ} 0 1 = cc in omega arith)
+refused-first (Refused n) {k} e = cc
+
+pub second-node : {y : Given} {x : ℕ} {q : Pass} {ops₁ ops : ℕ} {sorted₁ sorted : Bool} → y ≡ NodeG x q → Sum ops₁ (q .ops) ops → Or sorted₁ (q .sorted) sorted
+    → SecondShown y ops₁ sorted₁ (ShownR (shownIn 2 ops sorted (q .bailed) x))
+second-node {y} {x} {q} {ops₁} {ops} {sorted₁} {sorted} d sum o =
     record {
       is = λ {w} out a most more.
           let g = subst (λ (z : Given). Stores out w z) d a .is in
           let k = more x (g .after) (g .is) in
-          let e : ops ≡ first .ops + g .after .ops = sum .is (let z = g .stands .ops in omega arith) ∙ ap (λ (m : ℕ). first .ops + m) (sym (g .stands .ops)) in
-          let f : sorted ≡ first .sorted || g .after .sorted = o .is ∙ ap (λ (b : Bool). first .sorted || b) (sym (g .stands .sorted)) in
+          let e : ops ≡ ops₁ + g .after .ops = sum .is (let z = g .stands .ops in omega arith) ∙ ap (λ (m : ℕ). ops₁ + m) (sym (g .stands .ops)) in
+          let f : sorted ≡ sorted₁ || g .after .sorted = o .is ∙ ap (λ (b : Bool). sorted₁ || b) (sym (g .stands .sorted)) in
           record {
             is = record {
               pass = q;
               nodes = g .after .nodes;
               is =
-                  ap (afterSecond (first .ops) (first .sorted)) (g .is)
-                  ∙ ap (λ (m : ℕ). shown (record { passes = 2; operations = m; sorted = first .sorted || g .after .sorted; bailed = g .after .bailed; nodes = g .after .nodes; root = x })) (sym e)
+                  ap (afterSecond ops₁ sorted₁) (g .is)
+                  ∙ ap (λ (m : ℕ). shown (record { passes = 2; operations = m; sorted = sorted₁ || g .after .sorted; bailed = g .after .bailed; nodes = g .after .nodes; root = x })) (sym e)
                   ∙ ap (λ (b : Bool). shown (record { passes = 2; operations = ops; sorted = b; bailed = g .after .bailed; nodes = g .after .nodes; root = x })) (sym f)
                   ∙ ap (λ (b : Bool). shown (record { passes = 2; operations = ops; sorted = sorted; bailed = b; nodes = g .after .nodes; root = x })) (g .stands .bailed);
               arena = g .stands .arena;
@@ -204,9 +218,9 @@ second-node {y} {x} {q} {first} {ops} {sorted} d sum o =
           };
     }
 
-pub second-refused : {y : Given} {k : ℕ} {first : Pass} → y ≡ Refused k → SecondShown y first (RefusedR k)
-second-refused {first = first} d =
-    record { is = λ {w} out a most more. record { is = ap (afterSecond (first .ops) (first .sorted)) (subst (λ (z : Given). Stores out w z) d a .is) } }
+pub second-refused : {y : Given} {k ops : ℕ} {sorted : Bool} → y ≡ Refused k → SecondShown y ops sorted (RefusedR k)
+second-refused {ops = ops} {sorted = sorted} d =
+    record { is = λ {w} out a most more. record { is = ap (afterSecond ops sorted) (subst (λ (z : Given). Stores out w z) d a .is) } }
 
 -- the bits of a state are those of the working slice
 bits-part : {n : ℕ} {st : State} {work : List ℕ} → Keyed n st work → length (st .bits) ≡ n → part work bitsAt n ≡ st .bits
@@ -218,8 +232,8 @@ unfolding canonicalize
 canonicalize-is p t id pol = refl
 
 -- what the second pass is given
-abbrev pub again : Canon → Pass → Canon
-again c q = record { count = c .count; base = c .base; budget = c .budget; spent = q .ops; functor = c .functor }
+abbrev pub again : Canon → ℕ → Canon
+again c ops = record { count = c .count; base = c .base; budget = c .budget; spent = ops; functor = c .functor }
 
 -- the facts with the set preserved
 reps-kept : {table table′ : List ℕ} {c d : Canon} {p p′ : runs.Pass} → d .count ≡ c .count → c .count ≤ mostEntries → ((id : ℕ) → p′ .rep id ≡ p .rep id) → ((k : ℕ) → k < preservedAt → cell table′ k ≡ cell table k)
@@ -240,14 +254,14 @@ both-zero false x one nil = ap not (sym (eq-eqb x 0 (nil refl)))
 
 module _ {table : List ℕ} {c : Canon} {w work : List ℕ} {id : ℕ} {pol : Polarity} {w1 work1 : List ℕ} where
   -- the first pass is refused
-  pub canonicalizes-refused : {k : ℕ} {g : Given} {none : Pass} {r : RootAnswer} → OnePass table c w work id pol w1 work1 g → g ≡ Refused k → SecondShown g none r → NoneCounted none
+  pub canonicalizes-refused : {k : ℕ} {g : Given} {r : RootAnswer} → OnePass table c w work id pol w1 work1 g → FirstShown g r → r ≡ RefusedR k
       → Canonicalizes table c w work id pol table w1 work1 r
-  canonicalizes-refused {k} {g} {none} {r} one e second nil =
+  canonicalizes-refused {k} {g} {r} one f e =
       record {
         is = λ {p} {t} kn tb lent un lt.
-            let a = subst (λ (y : Given). Answers (pass p t id pol) (p .count) w1 work work1 heldAt y) e (one .is kn tb lent lt) .is in
-            subst (λ (y : runs.Answer). RootIs y w1 r) (sym (canonicalize-is p t id pol ∙ ap (afterFirst p t id pol) a))
-            (second .is (no k) (subst (λ (y : Given). Stores (no k) w1 y) (sym e) (record { is = refl })) (let z = nil .ops in omega arith) (λ x st z. refused-not z));
+            let z : g ≡ Refused k = refused-first g (sym (f .is) ∙ e) in
+            let a = subst (λ (y : Given). Answers (pass p t id pol) (p .count) w1 work work1 heldAt y) z (one .is kn tb lent lt) .is in
+            subst (RootIs (canonicalize p t id pol) w1) (sym e) (record { is = canonicalize-is p t id pol ∙ ap (afterFirst p t id pol) a });
         kept = λ un k. refl;
       }
 
@@ -264,8 +278,8 @@ module _ {table : List ℕ} {c : Canon} {w work : List ℕ} {id : ℕ} {pol : Po
         sym (de .is ∙ ap (λ (n : ℕ). any isBoth (part work1 bitsAt n)) (sym (kn .count)) ∙ ap (any isBoth) (bits-part (a .keyed) (m .0 .steady (steady-fresh (p .count)) .bits)))
 
     -- one pass is enough
-    pub canonicalizes-once : found ≡ false → Canonicalizes table c w work id pol table1 w1 work1 (ShownR (shownIn 1 (q .ops) (q .sorted) (q .bailed) x))
-    canonicalizes-once z =
+    once : found ≡ false → Canonicalizes table c w work id pol table1 w1 work1 (ShownR (shownIn 1 (q .ops) (q .sorted) (q .bailed) x))
+    once z =
         record {
           is = λ {p} {t} kn tb lent un lt.
               let a = first-is kn tb lent lt .is in
@@ -290,7 +304,7 @@ module _ {table : List ℕ} {c : Canon} {w work : List ℕ} {id : ℕ} {pol : Po
 
     -- the second pass's set is what the first saw in both polarities
     knows-again : {p : runs.Pass} {t : Reader} {st : State} → Knows table c p t → Keyed (p .count) st work1 → Stands st w1 q → LentTo table w work → NonePreserved table (c .count)
-        → Knows table1 (again c q) (withSet p st) t
+        → Knows table1 (again c (q .ops)) (withSet p st) t
     knows-again {p} {t} {st} kn keyed on lent un =
         let few = kn .few in
         let long = lent .table in
@@ -314,10 +328,10 @@ module _ {table : List ℕ} {c : Canon} {w work : List ℕ} {id : ℕ} {pol : Po
 
     module _ {w2 work2 : List ℕ} {g2 : Given} {table2 : List ℕ} {r : RootAnswer} where
       -- a second pass is shown
-      pub canonicalizes-twice : found ≡ true → OnePass table1 (again c q) w1 work1 id pol w2 work2 g2 → Clears table1 preservedAt (c .count) table2 → SecondShown g2 q r
-          → length table1 ≡ length table → length w1 ≡ length w → length work1 ≡ length work
+      twice : found ≡ true → OnePass table1 (again c (q .ops)) w1 work1 id pol w2 work2 g2 → Clears table1 preservedAt (c .count) table2
+          → SecondShown g2 (q .ops) (q .sorted) r → length table1 ≡ length table → length w1 ≡ length w → length work1 ≡ length work
           → Canonicalizes table c w work id pol table2 w2 work2 r
-      canonicalizes-twice z two cl second len-f len-w len-h =
+      twice z two cl second len-f len-w len-h =
           record {
             is = λ {p} {t} kn tb lent un lt.
                 let a = first-is kn tb lent lt .is in
@@ -348,3 +362,21 @@ module _ {table : List ℕ} {c : Canon} {w work : List ℕ} {id : ℕ} {pol : Po
           by-place : NonePreserved table (c .count) → (k : ℕ) (b : Bool) → ltb k preservedAt ≡ b → cell table2 k ≡ cell table k
           by-place un k true e = let h = ltb-true k preservedAt e in cl .before k h ∙ de .before k h
           by-place un k false e = above un k (ltb-false k preservedAt e) (ltb k (preservedAt + c .count)) refl
+
+  -- by the answer of the first pass, opened
+  module _ {g : Given} {s : Shown} {first : RootAnswer} {table1 : List ℕ} {found : Bool} (one : OnePass table c w work id pol w1 work1 g)
+      (f : FirstShown g first) (told : first ≡ ShownR s) (de : Detects table work1 (c .count) table1 found) where
+    pub canonicalizes-once : found ≡ false → Canonicalizes table c w work id pol table1 w1 work1 (ShownR s)
+    canonicalizes-once z =
+        let o = opened g (sym (f .is) ∙ told) in
+        subst (λ (y : Shown). Canonicalizes table c w work id pol table1 w1 work1 (ShownR y)) (sym (o .shows)) (once one (o .is) de z)
+
+    pub canonicalizes-twice : {w2 work2 : List ℕ} {g2 : Given} {table2 : List ℕ} {r : RootAnswer} → found ≡ true
+        → OnePass table1 (again c (s .ops)) w1 work1 id pol w2 work2 g2 → Clears table1 preservedAt (c .count) table2 → SecondShown g2 (s .ops) (s .sorted) r
+        → length table1 ≡ length table → length w1 ≡ length w → length work1 ≡ length work → Canonicalizes table c w work id pol table2 w2 work2 r
+    canonicalizes-twice {w2} {work2} {g2} {table2} {r} z two cl second len-f len-w len-h =
+        let o = opened g (sym (f .is) ∙ told) in
+        let n : s .ops ≡ o .pass .ops = ap (λ (y : Shown). y .ops) (o .shows) in
+        let m : s .sorted ≡ o .pass .sorted = ap (λ (y : Shown). y .sorted) (o .shows) in
+        twice one (o .is) de z (subst (λ (k : ℕ). OnePass table1 (again c k) w1 work1 id pol w2 work2 g2) n two) cl
+        (subst (λ (b : Bool). SecondShown g2 (o .pass .ops) b r) m (subst (λ (k : ℕ). SecondShown g2 k (s .sorted) r) n second)) len-f len-w len-h

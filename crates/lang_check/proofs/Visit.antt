@@ -9,6 +9,7 @@ use lib.Seq.{getD-set-same, getD-set-other}
 use lib.Dec.{eqb, ltb}
 use borrow.Author.Tests.{eqb-true, eq-eqb}
 use Rattle.cells.specs.Part.{if, cell}
+use Rattle.cells.proofs.Choices.{true-false}
 use Rattle.layout.specs.Layout.{heldAt, seenAt, workLength, bitsAt}
 use Rattle.rules.specs.Plain.{both}
 use Rattle.rules.specs.Table.{kids}
@@ -17,7 +18,6 @@ use Rattle.rules.specs.Canonicalizer.{Reader, variable, count-one, check-budget
 use Rattle.rules.specs.Canonicalizer as runs
 use Rattle.rules.specs.declared.Polarity.{Polarity}
 use Rattle.rules.specs.declared.Polarity.the-variants.{Positive, Negative}
-use Rattle.laws.proofs.Storing.{true-false}
 use Rattle.laws.proofs.Keeping.{keeps-variable}
 use Rattle.laws.proofs.Loading.{load-take}
 use Rattle.laws.proofs.Moving.{Firm, Any, any-stays, firm-any, goes-rule, named-keys}
@@ -73,7 +73,7 @@ module _ (p : runs.Pass) (id : ℕ) (pol : Polarity) (w : Run ℕ) (st : State) 
       ∙ ap (λ (j : ℕ). look p id w j (counted p st)) z
 
 -- a state of the same nodes, with the operations and the bail of another pass
-pub stands-with : {st : State} {w : List ℕ} {q r : Pass} {o : ℕ} {b : Bool} (ks bs : List ℕ) → Stands st w q → PassWith q o b r
+stands-with : {st : State} {w : List ℕ} {q r : Pass} {o : ℕ} {b : Bool} (ks bs : List ℕ) → Stands st w q → PassWith q o b r
     → Stands (record { nodes = st .nodes; cells = st .cells; keys = ks; bits = bs; ops = o; sorted = st .sorted; bailed = b }) w r
 stands-with ks bs on e =
     record {
@@ -145,7 +145,7 @@ module _ {table : List ℕ} {c : Canon} {w work : List ℕ} {free h : ℕ} {q : 
         is = λ {p} {t} {st} po on lt.
             let f : exceeds p (tick (st .ops)) ≡ true = exceeds-is (po .knows) on one x ∙ b in
             let with : PassWith q (tick (st .ops)) (exceeds p (tick (st .ops))) q2 =
-                record { nodes = two .nodes ∙ one .nodes; cells = two .cells ∙ one .cells; ops = two .ops ∙ one .ops ∙ ap tick (sym (on .ops)); sorted = two .sorted ∙ one .sorted; bailed = two .bailed ∙ sym f } in
+            record { nodes = two .nodes ∙ one .nodes; cells = two .cells ∙ one .cells; ops = two .ops ∙ one .ops ∙ ap tick (sym (on .ops)); sorted = two .sorted ∙ one .sorted; bailed = two .bailed ∙ sym f } in
             answers-out (sym (visit-is free p t id pol st ∙ entered-over p id pol (ahead free p t id pol) st (on .bailed ∙ e) f))
             (answers-stored h (keeps-variable p id (counted p st)) (keyed-state refl refl (po .keyed)) (v .is (po .knows .reps) (stands-with (st .keys) (st .bits) on with)));
       }

@@ -220,9 +220,9 @@ pub record Expands (table : List ℕ) (c : Canon) (w work : List ℕ) (free h : 
     (w′ work′ : List ℕ) (r : Given) : Type 0 where
   pub is : {p : runs.Pass} {t : Reader} {st : State} {bs : List ℕ} → isVariable (t id) ≡ true
       → Poised table c work h (length (kids (t id))) p t st → Stands st w q → id < c .count → HeldList work h n bs → Under (c .count) bs
-          → length bs ≤ length (kids (t id))
+      → length bs ≤ length (kids (t id))
       → Answers (expand-bounds p (visit free p t) (expand-bounds-empty-fallback chain p t (visit free p t) (begunOf begun) id pol) bs pol st)
-          (p .count) w′ work work′ h r
+      (p .count) w′ work work′ h r
 
 -- expand_bounds_empty_fallback
 pub record FallsBackTo (table : List ℕ) (c : Canon) (w work : List ℕ) (free h : ℕ) (q : Pass) (chain : ℕ) (begun : Begun) (id : ℕ) (pol : Polarity)

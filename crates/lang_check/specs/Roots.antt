@@ -15,10 +15,11 @@ use Rattle.laws.specs.Sound.{Tabled}
 use Rattle.rules.specs.declared.Polarity.{Polarity}
 use Rattle.lang_ty.specs.declared.arena.Pass.{Pass}
 use Rattle.lang_ty.specs.declared.arena.Given.{Given}
-use Rattle.lang_ty.specs.Nodes.{Arena, Answers as Stores}
+use Rattle.lang_ty.specs.declared.arena.Given.the-variants.{Node as NodeG, Refused}
+use Rattle.lang_ty.specs.declared.arena.Shown.{Shown}
+use Rattle.lang_ty.specs.Nodes.{Arena, shownOf, Answers as Stores}
 use Rattle.storage.specs.declared.given.Canon.{Canon}
 use Rattle.storage.specs.Passes.{Knows}
-use Rattle.lang_check.specs.declared.collect.Shown.{Shown}
 use Rattle.lang_check.specs.declared.collect.RootAnswer.{RootAnswer}
 use Rattle.lang_check.specs.declared.collect.RootAnswer.the-variants.{Shown as ShownR, Refused as RefusedR}
 use Rattle.lang_check.specs.Cycle.{Answers}
@@ -63,8 +64,7 @@ pub record Detects (table work : List ℕ) (count : ℕ) (table′ : List ℕ) (
 pub record ShownIs (a : runs.Answer) (w : List ℕ) (sh : Shown) : Type 0 where
   pub pass : Pass
   pub nodes : List Node
-  pub is : a ≡ shown (record {
-      passes = sh .passes; operations = sh .ops; sorted = sh .sorted; bailed = sh .bailed; nodes = nodes; root = sh .node })
+  pub is : a ≡ shown (shownOf sh nodes)
   pub arena : Arena w pass nodes
   pub below : sh .node < length nodes
 
@@ -76,10 +76,18 @@ RootBy a w (RefusedR k) = a ≡ refusedWith k
 pub record RootIs (a : runs.Answer) (w : List ℕ) (r : RootAnswer) : Type 0 where
   pub is : RootBy a w r
 
+-- the answer of the first pass
+abbrev pub firstOf : Given → RootAnswer
+firstOf (NodeG x q) = ShownR (record { passes = 1; ops = q .ops; sorted = q .sorted; bailed = q .bailed; node = x })
+firstOf (Refused k) = RefusedR k
+
+pub record FirstShown (g : Given) (r : RootAnswer) : Type 0 where
+  pub is : r ≡ firstOf g
+
 -- the answer of the second pass, with what the first one counted
-pub record SecondShown (g : Given) (first : Pass) (r : RootAnswer) : Type 0 where
-  pub is : {w : List ℕ} (o : Out ℕ) → Stores o w g → first .ops ≤ mostOperations → ((x : ℕ) (st : State) → o ≡ ok x st → st .ops ≤ mostOperations)
-      → RootIs (afterSecond (first .ops) (first .sorted) o) w r
+pub record SecondShown (g : Given) (ops : ℕ) (sorted : Bool) (r : RootAnswer) : Type 0 where
+  pub is : {w : List ℕ} (o : Out ℕ) → Stores o w g → ops ≤ mostOperations → ((x : ℕ) (st : State) → o ≡ ok x st → st .ops ≤ mostOperations)
+      → RootIs (afterSecond ops sorted o) w r
 
 -- no variable is preserved before the first pass
 pub record NonePreserved (table : List ℕ) (count : ℕ) : Type 0 where

@@ -1,37 +1,38 @@
 // The Canonicalizer of collect.rs.
+use crate::made::made;
+use crate::made::retried;
 use cells::add;
 use cells::at;
 use cells::get;
 use cells::place;
 use cells::put;
 use cells::set;
+use composites::binary;
 use composites::binary::Tried;
 use composites::binary::Try;
-use composites::binary;
 use composites::bounds;
 use composites::lists::Settled;
-use crate::made::made;
-use crate::made::retried;
+use lang_ty::arena;
 use lang_ty::arena::Given;
 use lang_ty::arena::OutputTy;
 use lang_ty::arena::Pass;
-use lang_ty::arena;
+use lang_ty::arena::Shown;
 use layout::ArenaSlice;
 use layout::TableSlice;
 use layout::WorkSlice;
 use members::lists::Flow;
 use rules::Polarity;
-use storage::entries::Entry;
 use storage::entries;
+use storage::entries::Entry;
 use storage::given::Canon;
-use storage::held::Own;
 use storage::held;
+use storage::held::Own;
+use storage::notes;
 use storage::notes::Begun;
 use storage::notes::PolarityBits;
-use storage::notes;
 use storage::vars;
 ghost use Rattle.lang_check.specs.Cycle.{Visits, Rules, Children, Each, Inner, Gathered, Expands, FallsBackTo, Inters, Again, Retries, Either, Caches, Side, IsCut};
-ghost use Rattle.lang_check.specs.Roots.{NoneCounted, OnePass, PreservesIf, Or, Detects, SecondShown, Canonicalizes};
+ghost use Rattle.lang_check.specs.Roots.{NoneCounted, OnePass, PreservesIf, Or, Detects, FirstShown, SecondShown, Canonicalizes};
 
 // Whether a fallback begins no list: there is none, or after the bail the chain began it before.
 fn is_cut(n: u32, q: Pass, begun: Begun, pol: Polarity) -> bool
@@ -114,7 +115,17 @@ pub fn visit(
 }
 
 // canonicalize_inner for a variable, canonicalize_concrete for the others.
-fn rule(table: &[u32], c: Canon, arena: &mut [u32], work: &mut [u32], free: u32, h: u32, q: Pass, id: u32, pol: Polarity) -> Given
+fn rule(
+    table: &[u32],
+    c: Canon,
+    arena: &mut [u32],
+    work: &mut [u32],
+    free: u32,
+    h: u32,
+    q: Pass,
+    id: u32,
+    pol: Polarity,
+) -> Given
     ensures { λ r. ⌜ Rules (now (table .entry)) c (now (arena .entry)) (now (work .entry)) free h q id pol (now (arena .exit)) (now (work .exit)) r ⌝ }
 {
     let e = entries::entry_at(table, c, id);
@@ -143,7 +154,18 @@ fn children(
     ensures { λ r. ⌜ Children (now (table .entry)) c (now (arena .entry)) (now (work .entry)) free h q e pol (now (arena .exit)) (now (work .exit)) r ⌝ }
 {
     let n = held::hold_children(table, work, h, e);
-    each(table, c, arena, work, free, h, q, n, held::first_polarity(e, pol), pol)
+    each(
+        table,
+        c,
+        arena,
+        work,
+        free,
+        h,
+        q,
+        n,
+        held::first_polarity(e, pol),
+        pol,
+    )
 }
 
 // canonicalize_inner for the variable id, whose bounds stand at v: a Named bound replaces it before its polarity is noted.
@@ -168,7 +190,20 @@ fn inner(
     match held::own_bounds(table, c, work, h, id, v, pol) {
         Own::Variable => vars::variable(table, c, arena, q, id),
         Own::Bounds(n, kept) => {
-            let g = expand(table, c, arena, work, free, h, q, Canon::CHAIN, notes::none_begun(), n, id, pol);
+            let g = expand(
+                table,
+                c,
+                arena,
+                work,
+                free,
+                h,
+                q,
+                Canon::CHAIN,
+                notes::none_begun(),
+                n,
+                id,
+                pol,
+            );
             vars::expanded(table, c, arena, g, id, pol, kept)
         }
     }
@@ -243,7 +278,20 @@ fn fallback(
         return vars::variable(table, c, arena, q, id);
     }
     let next = notes::begin(begun, pol, q.bailed);
-    expand(table, c, arena, work, free, h, q, chain - 1, next, n, id, pol.flip())
+    expand(
+        table,
+        c,
+        arena,
+        work,
+        free,
+        h,
+        q,
+        chain - 1,
+        next,
+        n,
+        id,
+        pol.flip(),
+    )
 }
 
 // The n ids held from h on, each replaced by its answer: the first in a polarity of its own, the others in that of the place.
@@ -265,7 +313,17 @@ fn each(
     let mut i = 0;
     while i < n {
         let b = get(work, place(h, i));
-        match visit(table, c, arena, work, free, add(h, n), q, b, side(i, first, pol)) {
+        match visit(
+            table,
+            c,
+            arena,
+            work,
+            free,
+            add(h, n),
+            q,
+            b,
+            side(i, first, pol),
+        ) {
             Given::Node(x, r) => {
                 put(work, place(h, i), x);
                 q = r;
@@ -351,29 +409,37 @@ fn retry(
     retried(arena, t)
 }
 
-// What a root is answered with: passes, operations of both, the sorted mark of either, whether the pass shown bailed, and the node.
-pub struct Shown {
-    pub passes: u32,
-    pub ops: u32,
-    pub sorted: bool,
-    pub bailed: bool,
-    pub node: u32,
-}
-
 pub enum RootAnswer {
     Shown(Shown),
     Refused(u32),
 }
 
 // A pass from nothing: its own arena, keys and bits, and no id marked as seen.
-fn one_pass(table: &[u32], c: Canon, arena: &mut [u32], work: &mut [u32], id: u32, pol: Polarity) -> Given
+fn one_pass(
+    table: &[u32],
+    c: Canon,
+    arena: &mut [u32],
+    work: &mut [u32],
+    id: u32,
+    pol: Polarity,
+) -> Given
     ensures { λ r. ⌜ OnePass (now (table .entry)) c (now (arena .entry)) (now (work .entry)) id pol (now (arena .exit)) (now (work .exit)) r ⌝ }
 {
     cells::clear(work, 0, add(c.count, c.count));
     cells::clear(work, WorkSlice::BITS, c.count);
     cells::clear(work, WorkSlice::SEEN, c.count);
     set(arena, 0, ArenaSlice::WORDS);
-    visit(table, c, arena, work, Canon::KEYS, WorkSlice::HELD, none_counted(), id, pol)
+    visit(
+        table,
+        c,
+        arena,
+        work,
+        Canon::KEYS,
+        WorkSlice::HELD,
+        none_counted(),
+        id,
+        pol,
+    )
 }
 
 // Whether id was seen in both polarities; if so it is preserved.
@@ -409,9 +475,28 @@ fn detected_cooccurring(table: &mut [u32], work: &[u32], count: u32) -> bool
     any
 }
 
+// The answer of the first pass.
+fn first_shown(g: Given) -> RootAnswer
+    ensures { λ r. ⌜ FirstShown g r ⌝ }
+{
+    match g {
+        Given::Node(x, q) => {
+            let s = Shown {
+                passes: 1,
+                ops: q.ops,
+                sorted: q.sorted,
+                bailed: q.bailed,
+                node: x,
+            };
+            RootAnswer::Shown(s)
+        }
+        Given::Refused(k) => RootAnswer::Refused(k),
+    }
+}
+
 // The answer of the second pass, with what the first one counted.
-fn second_shown(g: Given, first: Pass) -> RootAnswer
-    ensures { λ r. ⌜ SecondShown g first r ⌝ }
+fn second_shown(g: Given, first: Shown) -> RootAnswer
+    ensures { λ r. ⌜ SecondShown g (first .ops) (first .sorted) r ⌝ }
 {
     match g {
         Given::Node(x, q) => {
@@ -429,33 +514,33 @@ fn second_shown(g: Given, first: Pass) -> RootAnswer
 }
 
 // canonicalize_standalone_with_deadline: if any representative was seen in both polarities, a second pass runs with that set.
-pub fn canonicalize(table: &mut [u32], c: Canon, arena: &mut [u32], work: &mut [u32], id: u32, pol: Polarity) -> RootAnswer
+pub fn canonicalize(
+    table: &mut [u32],
+    c: Canon,
+    arena: &mut [u32],
+    work: &mut [u32],
+    id: u32,
+    pol: Polarity,
+) -> RootAnswer
     ensures { λ r. ⌜ Canonicalizes (now (table .entry)) c (now (arena .entry)) (now (work .entry)) id pol (now (table .exit)) (now (arena .exit)) (now (work .exit)) r ⌝ }
 {
-    let g = one_pass(table, c, arena, work, id, pol);
-    let Given::Node(x, q) = g else {
-        return second_shown(g, none_counted());
+    let first = first_shown(one_pass(table, c, arena, work, id, pol));
+    let RootAnswer::Shown(s) = first else {
+        return first;
     };
     if !detected_cooccurring(table, work, c.count) {
-        let s = Shown {
-            passes: 1,
-            ops: q.ops,
-            sorted: q.sorted,
-            bailed: q.bailed,
-            node: x,
-        };
-        return RootAnswer::Shown(s);
+        return first;
     }
     let d = Canon {
         count: c.count,
         base: c.base,
         budget: c.budget,
-        spent: q.ops,
+        spent: s.ops,
         functor: c.functor,
     };
     let h = one_pass(table, d, arena, work, id, pol);
     cells::clear(table, TableSlice::PRESERVED, c.count);
-    second_shown(h, q)
+    second_shown(h, s)
 }
 
 fn none_counted() -> Pass

@@ -2,12 +2,12 @@
 use cells::at;
 use cells::get;
 use cells::place;
-use composites::binary::Tried;
 use composites::binary;
+use composites::binary::Tried;
+use lang_ty::arena;
 use lang_ty::arena::Given;
 use lang_ty::arena::OutputTy;
 use lang_ty::arena::Pass;
-use lang_ty::arena;
 use members::lists::Flow;
 use members::negate;
 use rules::Polarity;
@@ -19,7 +19,15 @@ ghost use Rattle.lang_check.specs.Cycle.{Made, Retried};
 ghost use Rattle.lang_check.specs.Making.{MadeOfOne};
 
 // The node of an entry of one child or none, whose answer is held at h. A table with a frozen entry is refused, so that none is met.
-fn made_of_one(table: &[u32], c: Canon, arena: &mut [u32], work: &mut [u32], h: u32, q: Pass, e: Entry) -> Given
+fn made_of_one(
+    table: &[u32],
+    c: Canon,
+    arena: &mut [u32],
+    work: &mut [u32],
+    h: u32,
+    q: Pass,
+    e: Entry,
+) -> Given
     ensures { λ r. ⌜ MadeOfOne (now (table .entry)) c (now (arena .entry)) (now (work .entry)) h q e (now (arena .exit)) (now (work .exit)) r ⌝ }
 {
     let x = at(work, h);
@@ -34,7 +42,16 @@ fn made_of_one(table: &[u32], c: Canon, arena: &mut [u32], work: &mut [u32], h: 
 }
 
 // The node of an entry whose children's answers are held from h on.
-pub fn made(table: &[u32], c: Canon, arena: &mut [u32], work: &mut [u32], h: u32, f: Flow, e: Entry, pol: Polarity) -> Given
+pub fn made(
+    table: &[u32],
+    c: Canon,
+    arena: &mut [u32],
+    work: &mut [u32],
+    h: u32,
+    f: Flow,
+    e: Entry,
+    pol: Polarity,
+) -> Given
     ensures { λ r. ⌜ Made (now (table .entry)) c (now (arena .entry)) (now (work .entry)) h f e pol (now (arena .exit)) (now (work .exit)) r ⌝ }
 {
     match f {

@@ -90,7 +90,7 @@ pub record Looking (w : List ℕ) (a n step k i p : ℕ) : Type 0 where
   pub is : reach step a n ≤ 4294967295
       → (reach step p (n - i) ≡ reach step a n) × (contains (apart w step p (n - i)) k ≡ contains (apart w step a n) k)
 
-reach-most : (step a n : ℕ) → a ≤ reach step a n
+pub reach-most : (step a n : ℕ) → a ≤ reach step a n
 reach-most step a zero = omega arith
 reach-most step a (suc n) = omega (arith, reach-most step (a + step) n)
 
@@ -131,11 +131,11 @@ module _ {w : List ℕ} {a n step k : ℕ} where
       record { is = λ r. sym (ap (λ (m : ℕ). contains (apart w step p m) k) z) ∙ c .is r .1 }
 
 -- keys stand two apart, optional keys one
-reach-two : (a n : ℕ) → reach 2 a n ≡ a + 2 * n
+pub reach-two : (a n : ℕ) → reach 2 a n ≡ a + 2 * n
 reach-two a zero = omega arith
 reach-two a (suc n) = omega (arith, reach-two (a + 2) n)
 
-reach-one : (a n : ℕ) → reach 1 a n ≡ a + n
+pub reach-one : (a n : ℕ) → reach 1 a n ≡ a + n
 reach-one a zero = omega arith
 reach-one a (suc n) = omega (arith, reach-one (a + 1) n)
 
@@ -143,7 +143,7 @@ apart-keys : {w : List ℕ} {a : ℕ} (fs : List Field) → Holds w a (fieldWord
 apart-keys [] h = refl
 apart-keys (f ∷ fs) h = ap₂ {C = List ℕ} _∷_ (holds-head h) (apart-keys fs (holds-place (omega arith) (holds-tail (holds-tail h))))
 
-apart-part : (w : List ℕ) (a n : ℕ) → apart w 1 a n ≡ part w a n
+pub apart-part : (w : List ℕ) (a n : ℕ) → apart w 1 a n ≡ part w a n
 apart-part w a zero = refl
 apart-part w a (suc n) = ap (λ (l : List ℕ). cell w a ∷ l) (ap (λ (b : ℕ). apart w 1 b n) (add-one a) ∙ apart-part w (suc a) n)
 

@@ -17,7 +17,7 @@ use Rattle.lang_ty.specs.Orders.{FirstChild, Children, ChildAt}
 use Rattle.lang_ty.proofs.Words.{row-few, word-of}
 use Rattle.lang_ty.proofs.Shapes.{setOf, set-at}
 
-kids-length : (t : Attr) → length (attrKids t) ≡ length (t .fields) + length (dynIds (t .dyn))
+pub kids-length : (t : Attr) → length (attrKids t) ≡ length (t .fields) + length (dynIds (t .dyn))
 kids-length t = omega (arith, length-append (fieldTypes (t .fields)) (dynIds (t .dyn)), length-map (t .fields) (λ (f : Field). f .type))
 
 module _ {w : List ℕ} {x k : ℕ} (a : Kind w x k) where

@@ -4,14 +4,14 @@ use Prim.Native.Nat.{ℕ, _+_, _*_, _≤_, _<_}
 use native.Mathlib.Omega.{arith}
 use mathlib.Core.List.{List, [], _∷_}
 use lib.ListN.{length}
-use Rattle.cells.specs.Part.{cell, part}
+use Rattle.cells.specs.Part.{cell}
 use Rattle.layout.specs.Layout.{arenaWords, arenaLength}
 use Rattle.rules.specs.Table.{Attr, attrKids}
-use Rattle.rules.specs.Types.{State, Out, no, Node, TyVar, Primitive, ListOf, Lambda, AttrSet, Union, Intersection, Named, Neg, Bottom, Top, encode, store}
+use Rattle.rules.specs.Types.{State, Out, no, Node, TyVar, Primitive, ListOf, Lambda, AttrSet, Union, Intersection, Named, Bottom, encode, store}
 use Rattle.lang_ty.specs.declared.arena.Pass.{Pass}
 use Rattle.lang_ty.specs.declared.arena.Given.{Given}
 use Rattle.lang_ty.specs.declared.arena.Given.the-variants.{Node as NodeG, Refused}
-use Rattle.lang_ty.specs.Nodes.{Stands, Gives, Answer, Answers, Fits, Interned, Stored, Listed}
+use Rattle.lang_ty.specs.Nodes.{Stands, Gives, Answer, Answers, Fits, Interned, Stored}
 use Rattle.cells.specs.Placed.{Holds, Under}
 
 module _ {o : Out ℕ} {w : List ℕ} {r : Given} where
@@ -33,9 +33,6 @@ module _ {st : State} {w w′ : List ℕ} {q : Pass} {r : Given} (on : Stands st
   pub stored-bottom : Stored (9 ∷ []) 0 w q w′ r → Answers (store Bottom st) w′ r
   stored-bottom h = plain Bottom h (record { cells = refl; few = omega arith; below = tt; short = omega arith })
 
-  pub stored-top : Stored (10 ∷ []) 0 w q w′ r → Answers (store Top st) w′ r
-  stored-top h = plain Top h (record { cells = refl; few = omega arith; below = tt; short = omega arith })
-
   module _ {a : ℕ} where
     pub stored-tyvar : Stored (0 ∷ a ∷ []) 0 w q w′ r → Answers (store (TyVar a) st) w′ r
     stored-tyvar h = plain (TyVar a) h (record { cells = refl; few = omega arith; below = tt; short = omega arith })
@@ -45,9 +42,6 @@ module _ {st : State} {w w′ : List ℕ} {q : Pass} {r : Given} (on : Stands st
 
     pub stored-list : Stored (2 ∷ a ∷ []) 0 w q w′ r → a < q .nodes → Answers (store (ListOf a) st) w′ r
     stored-list h lt = plain (ListOf a) h (record { cells = refl; few = omega arith; below = (lt, tt); short = omega arith })
-
-    pub stored-neg : Stored (8 ∷ a ∷ []) 0 w q w′ r → a < q .nodes → Answers (store (Neg a) st) w′ r
-    stored-neg h lt = plain (Neg a) h (record { cells = refl; few = omega arith; below = (lt, tt); short = omega arith })
 
     module _ {b : ℕ} where
       pub stored-lambda : Stored (3 ∷ a ∷ b ∷ []) 0 w q w′ r → a < q .nodes → b < q .nodes → Answers (store (Lambda a b) st) w′ r
@@ -63,13 +57,6 @@ module _ {st : State} {w w′ : List ℕ} {q : Pass} {r : Given} (on : Stands st
       pub stored-intersection : Stored (6 ∷ 2 ∷ a ∷ b ∷ []) 2 w q w′ r → a < q .nodes → b < q .nodes → Answers (store (Intersection (a ∷ b ∷ [])) st) w′ r
       stored-intersection h lt lt′ =
           h .is {n = Intersection (a ∷ b ∷ [])} on (record { cells = refl; few = omega arith; below = (lt, (lt′, tt)); short = omega arith }) refl
-
-  module _ {from : List ℕ} {a n : ℕ} (below : Under (q .nodes) (part from a n)) where
-    pub listed-union : Listed 5 from a n w q w′ r → Answers (store (Union (part from a n)) st) w′ r
-    listed-union h = h .is on (record { row = refl; cells = omega arith; members = refl; below = below })
-
-    pub listed-intersection : Listed 6 from a n w q w′ r → Answers (store (Intersection (part from a n)) st) w′ r
-    listed-intersection h = h .is on (record { row = refl; cells = omega arith; members = refl; below = below })
 
 -- a set whose row stands behind the others
 pub interned-set : {st : State} {w w′ : List ℕ} {q : Pass} {len cells : ℕ} {r : Given} (t : Attr) → Stands st w q → Interned w q len cells w′ r

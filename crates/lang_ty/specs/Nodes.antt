@@ -12,9 +12,11 @@ use Rattle.rules.specs.Ceilings.{mostMembers, mostNodes, mostCells}
 use Rattle.rules.specs.Types.{State, Out, ok, no, encode, kindOf, members, children, cellsOf, nodeAt, store}
 use Rattle.rules.specs.Plain.{find}
 use Rattle.rules.specs.Types as rules
+use Rattle.rules.specs.Canonicalizer as runs
 use Rattle.lang_ty.specs.declared.arena.Pass.{Pass}
 use Rattle.lang_ty.specs.declared.arena.Given.{Given}
 use Rattle.lang_ty.specs.declared.arena.Given.the-variants.{Node, Refused}
+use Rattle.lang_ty.specs.declared.arena.Shown.{Shown}
 use Rattle.lang_ty.specs.declared.arena.Found.{Found}
 use Rattle.lang_ty.specs.declared.arena.Found.the-variants.{At, Nowhere}
 use Rattle.cells.specs.Placed.{Holds, Under}
@@ -44,6 +46,10 @@ pub record Stands (st : State) (w : List ℕ) (q : Pass) : Type 0 where
   pub ops : st .ops ≡ q .ops
   pub sorted : st .sorted ≡ q .sorted
   pub bailed : st .bailed ≡ q .bailed
+
+-- what these numbers and the nodes of a pass show
+abbrev pub shownOf : Shown → List rules.Node → runs.Shown
+shownOf s ns = record { passes = s .passes; operations = s .ops; sorted = s .sorted; bailed = s .bailed; nodes = ns; root = s .node }
 
 -- the rules give node x too, and the slice is as after that
 pub record Gives (o : Out ℕ) (w : List ℕ) (x : ℕ) (q : Pass) : Type 0 where

@@ -1,12 +1,12 @@
 // OutputTy's children and order.
-use cells::add;
-use cells::get;
-use cells::place;
 use crate::arena::OutputTy;
 use crate::arena::kind;
 use crate::arena::word;
 use crate::attrset;
 use crate::disjoint::set_place;
+use cells::add;
+use cells::get;
+use cells::place;
 ghost use Rattle.lang_ty.specs.Orders.{FirstChild, Children, ChildAt, Numbers, Least, SetItems, SetRest, SetItem, PlainItems, PlainItem, ListItem, Items, ItemAt, Plainly, ComparedAt, Compared};
 
 // How many children node x has.

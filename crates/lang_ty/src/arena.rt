@@ -15,15 +15,25 @@ pub struct OutputTy {}
 
 impl OutputTy {
     pub const TY_VAR: u32 = 0;
+
     pub const PRIMITIVE: u32 = 1;
+
     pub const LIST: u32 = 2;
+
     pub const LAMBDA: u32 = 3;
+
     pub const ATTR_SET: u32 = 4;
+
     pub const UNION: u32 = 5;
+
     pub const INTERSECTION: u32 = 6;
+
     pub const NAMED: u32 = 7;
+
     pub const NEG: u32 = 8;
+
     pub const BOTTOM: u32 = 9;
+
     pub const TOP: u32 = 10;
 }
 
@@ -38,7 +48,9 @@ pub struct Pass {
 
 impl Pass {
     pub const NODES: u32 = 4096;
+
     pub const CELLS: u32 = 16384;
+
     pub const MEMBERS: u32 = 128;
 }
 
@@ -46,6 +58,15 @@ impl Pass {
 pub enum Given {
     Node(u32, Pass),
     Refused(u32),
+}
+
+// What a root is answered with: passes, operations of both, the sorted mark of either, whether the pass shown bailed, and the node.
+pub struct Shown {
+    pub passes: u32,
+    pub ops: u32,
+    pub sorted: bool,
+    pub bailed: bool,
+    pub node: u32,
 }
 
 pub enum Found {

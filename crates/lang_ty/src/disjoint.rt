@@ -1,10 +1,10 @@
 // Constructor-shape disjointness.
-use cells::add;
-use cells::at;
-use crate::arena::OutputTy;
 use crate::arena;
+use crate::arena::OutputTy;
 use crate::attrset;
 use crate::primitive;
+use cells::add;
+use cells::at;
 ghost use Rattle.lang_ty.specs.Shapes.{SetPlace, Alone, Lacks, Apart, Constructor, SameDisjoint, Disjoint};
 
 // The set's place in the row of node x.

@@ -1,5 +1,5 @@
--- What holds of a table that is accepted: it is within the ceilings, the keys of its entries ascend, and their ids and keys are in range.
--- Assumes nothing.
+-- What holds of a table that is accepted: its rows are as their sections ask, it is within the ceilings, the keys of its entries ascend, and
+-- their ids and keys are in range. Assumes nothing.
 use mathlib.Core.Path.{_≡_, refl, sym, ap, _∙_, subst}
 use mathlib.Core.Bool.{Bool, true, false}
 use Prim.Native.Nat.{ℕ, zero, suc, _+_, _≤_, _<_}
@@ -8,20 +8,15 @@ use native.Mathlib.Nat.{not-suc-le-zero}
 use mathlib.Core.List.{List, [], _∷_, _++_, map}
 use lib.ListN.{length, drop, getD}
 use lib.Dec.{eqb, ltb}
-use borrow.Author.Tests.{ltb-false, eqb-true}
+use borrow.Author.Tests.{ltb-false, eqb-true, eqb-false}
 use Rattle.cells.specs.Part.{if, cell}
+use Rattle.cells.proofs.Choices.{by-branch, by-test, true-false}
 use Rattle.rules.specs.Plain.{both}
 use Rattle.rules.specs.Ceilings.{mostText, mostNames, longestName, mostEntries, mostIds}
 use Rattle.rules.specs.Text.{lineFeed, pieces, rowOf}
 use Rattle.rules.specs.Table.{Sections, entryOf, asSet, keysAscend, weight, Table, Reading, nothing, inOrder, addRow, rowWeight, add, over, ascends, Admission, admitted, fault, frozenEntry, admit, sectionOf, inForm, step, kinds, Result, accepted, refused, then, atLine, begun, lines, inRange, known, entryLine, rootLine, inTable, sectionsOf, rootOf, fromSections, tableOf}
-use Rattle.laws.proofs.Storing.{true-false}
-use Rattle.laws.proofs.Told.{by-branch}
+use Rattle.laws.proofs.ReadLines.{rowWords, ReadEntry, Gives, Long, Formal, Entered, line-entered}
 use mathlib.Core.Option.{Option, none, some}
-
--- what holds of each branch by what its test said holds of the one taken
-pub by-test : {A : Type 0} (P : A → Type 0) (b : Bool) (x y : Unit {0} → A) → (b ≡ true → P (x tt)) → (b ≡ false → P (y tt)) → P (if b x y)
-by-test P true x y p q = p refl
-by-test P false x y p q = q refl
 
 -- both tests hold
 pub both-parts : (b : Bool) (y : Unit {0} → Bool) → both b y ≡ true → (b ≡ true) × (y tt ≡ true)
@@ -42,31 +37,42 @@ accepts-more : {A : Type 0} (P Q : A → Type 0) (r : Result A) → ((a : A) →
 accepts-more P Q (accepted a) f h = f a h
 accepts-more P Q (refused k l) f h = tt
 
-pub accepts-then : {A B : Type 0} (P : A → Type 0) (Q : B → Type 0) (r : Result A) (f : A → Result B)
+accepts-then : {A B : Type 0} (P : A → Type 0) (Q : B → Type 0) (r : Result A) (f : A → Result B)
     → Accepts P r → ((a : A) → P a → Accepts Q (f a)) → Accepts Q (then r f)
 accepts-then P Q (accepted a) f h g = g a h
 accepts-then P Q (refused k l) f h g = tt
 
+-- of each of these
+abbrev pub Every : (List ℕ → Type 0) → List (List ℕ) → Type 0
+Every P [] = Unit {0}
+Every P (row ∷ rows) = P row × Every P rows
+
+module _ (P : List ℕ → Type 0) where
+  every-last : (rows : List (List ℕ)) (new : List ℕ) → Every P rows → P new → Every P (rows ++ (new ∷ []))
+  every-last [] new h p = (p, tt)
+  every-last (row ∷ rows) new h p = (h .0, every-last rows new (h .1) p)
+
+  pub every-at : (rows : List (List ℕ)) (i : ℕ) → Every P rows → i < length rows → P (getD rows i [])
+  every-at [] i h lt = absurd (not-suc-le-zero lt)
+  every-at (row ∷ rows) zero h lt = h .0
+  every-at (row ∷ rows) (suc i) h lt = every-at rows i (h .1) (omega arith)
+
 -- each row passes the test
-abbrev pub Each : (List ℕ → Bool) → List (List ℕ) → Type 0
-Each p [] = Unit {0}
-Each p (row ∷ rows) = (p row ≡ true) × Each p rows
-
 module _ (p : List ℕ → Bool) where
-  each-more : (rows : List (List ℕ)) (new : List ℕ) → Each p rows → p new ≡ true → Each p (rows ++ (new ∷ []))
-  each-more [] new h e = (e, tt)
-  each-more (row ∷ rows) new h e = (h .0, each-more rows new (h .1) e)
+  abbrev pub Passes : List ℕ → Type 0
+  Passes row = p row ≡ true
 
-  pub each-at : (rows : List (List ℕ)) (i : ℕ) → Each p rows → i < length rows → p (getD rows i []) ≡ true
-  each-at [] i h lt = absurd (not-suc-le-zero lt)
-  each-at (row ∷ rows) zero h lt = h .0
-  each-at (row ∷ rows) (suc i) h lt = each-at rows i (h .1) (omega arith)
+  abbrev pub Each : List (List ℕ) → Type 0
+  Each rows = Every Passes rows
 
-  pub known-each : (k : ℕ) (rows : List (List ℕ)) → Accepts (λ (_ : Unit {0}). Each p rows) (known p k rows)
+  pub each-at : (rows : List (List ℕ)) (i : ℕ) → Each rows → i < length rows → p (getD rows i []) ≡ true
+  each-at rows i h lt = every-at Passes rows i h lt
+
+  known-each : (k : ℕ) (rows : List (List ℕ)) → Accepts (λ (_ : Unit {0}). Each rows) (known p k rows)
   known-each k [] = tt
   known-each k (row ∷ rows) =
-      by-test (Accepts (λ (_ : Unit {0}). Each p (row ∷ rows))) (p row) _ _
-      (λ e. accepts-more (λ (_ : Unit {0}). Each p rows) (λ (_ : Unit {0}). Each p (row ∷ rows)) (known p (suc k) rows)
+      by-test (Accepts (λ (_ : Unit {0}). Each (row ∷ rows))) (p row) _ _
+      (λ e. accepts-more (λ (_ : Unit {0}). Each rows) (λ (_ : Unit {0}). Each (row ∷ rows)) (known p (suc k) rows)
       (λ _ h. (e, h)) (known-each (suc k) rows))
       (λ e. tt)
 
@@ -90,12 +96,50 @@ pub record Within (names entries : List (List ℕ)) : Type 0 where
   pub ids : weights entries ≤ mostIds
   pub ascend : Each inSequence entries
 
-abbrev WithinS : Sections → Type 0
-WithinS s = Within (s .names) (s .entries)
+-- a row of an entry, not frozen
+pub record EntryRow (row : List ℕ) : Type 0 where
+  pub is : row ≡ rowWords (entryOf row)
+  pub read : ReadEntry (entryOf row)
 
--- and of what was read so far, whose ids are counted
+abbrev pub Signed : List ℕ → Type 0
+Signed row = cell row 1 ≤ 1
+
+-- the rows of a table are as their sections ask
+pub record Formed (t : Sections) : Type 0 where
+  pub entries : Every EntryRow (t .entries)
+  pub pairs : Every (Long 2) (t .pairs)
+  pub marks : Every (Long 1) (t .marks)
+  pub roots : Every (Long 2) (t .roots)
+  pub signs : Every Signed (t .roots)
+
+formed-added : (t : Sections) (s : ℕ) (row : List ℕ) → Formed t → Formal s row → (cell row 0 ≡ frozenEntry → ⊥) → Formed (addRow t s row)
+formed-added t s row h f n =
+    by-test Formed (eqb s 0) _ _ (λ _. record { entries = h .entries; pairs = h .pairs; marks = h .marks; roots = h .roots; signs = h .signs })
+    (λ n₀. by-test Formed (eqb s 1) _ _ (λ _. record { entries = h .entries; pairs = h .pairs; marks = h .marks; roots = h .roots; signs = h .signs })
+    (λ n₁. by-test Formed (eqb s 2) _ _
+    (λ e. let l = f .entry (eqb-true s 2 e) in
+    record { entries = every-last EntryRow (t .entries) row (h .entries) (record { is = l .is; read = l .read n }); pairs = h .pairs; marks = h .marks; roots = h .roots; signs = h .signs })
+    (λ n₂. by-test Formed (eqb s 3) _ _
+    (λ e. record { entries = h .entries; pairs = every-last (Long 2) (t .pairs) (drop 1 row) (h .pairs) (f .pair (eqb-true s 3 e)); marks = h .marks; roots = h .roots; signs = h .signs })
+    (λ n₃. by-test Formed (eqb s 4) _ _
+    (λ e. record { entries = h .entries; pairs = h .pairs; marks = every-last (Long 1) (t .marks) (drop 1 row) (h .marks) (f .mark (eqb-true s 4 e)); roots = h .roots; signs = h .signs })
+    (λ n₄. let last : 5 ≤ s = omega (arith, eqb-false s 0 n₀, eqb-false s 1 n₁, eqb-false s 2 n₂, eqb-false s 3 n₃, eqb-false s 4 n₄) in
+    record {
+      entries = h .entries;
+      pairs = h .pairs;
+      marks = h .marks;
+      roots = every-last (Long 2) (t .roots) (drop 1 row) (h .roots) (f .root last);
+      signs = every-last Signed (t .roots) (drop 1 row) (h .signs) (f .sign last);
+    })))))
+
+-- of a table that was read so far
+record Kept (t : Sections) : Type 0 where
+  within : Within (t .names) (t .entries)
+  formed : Formed t
+
+-- and its ids are counted
 record Good (r : Reading) : Type 0 where
-  within : WithinS (r .table)
+  kept : Kept (r .table)
   counted : r .ids ≡ weights (r .table .entries)
 
 -- a row of another section leaves the entries
@@ -122,13 +166,13 @@ ascend-turn : (b : Bool) (t : Sections) (s : ℕ) (row : List ℕ) → eqb s 2 �
     → Each inSequence (addRow t s row .entries)
 ascend-turn true t s row e h a =
     subst (λ (k : ℕ). Each inSequence (addRow t k row .entries)) (sym (eqb-true s 2 e))
-    (each-more inSequence (t .entries) row h (subst (λ (k : ℕ). ascends t k row ≡ true) (eqb-true s 2 e) a))
+    (every-last (Passes inSequence) (t .entries) row h (subst (λ (k : ℕ). ascends t k row ≡ true) (eqb-true s 2 e) a))
 ascend-turn false t s row e h a = subst (Each inSequence) (sym (same-entries t s row e)) h
 
 -- what is read stays good with a row that passes no ceiling and ascends
 good-added : (r : Reading) (s : ℕ) (row : List ℕ) → Good r → over (add r s row) s row ≡ false
-    → ascends (r .table) s row ≡ true → Good (add r s row)
-good-added r s row g o a =
+    → ascends (r .table) s row ≡ true → Formal s row → (cell row 0 ≡ frozenEntry → ⊥) → Good (add r s row)
+good-added r s row g o a f z =
     let c = counted-turn (eqb s 2) (r .table) (r .ids) s row refl (g .counted) in
     let n = neither (ltb mostNames (length (addRow (r .table) s row .names))) _ o in
     let l = neither (both (eqb s 1) (λ _. ltb longestName (length (drop 1 row)))) _ (n .1) in
@@ -136,12 +180,15 @@ good-added r s row g o a =
     let i = neither (ltb mostIds (r .ids + rowWeight s row)) _ (e .1) in
     let m = ltb-false mostIds (r .ids + rowWeight s row) (i .0) in
     record {
-      within = record {
+      kept = record {
+        within = record {
           few-names = ltb-false mostNames (length (addRow (r .table) s row .names)) (n .0);
           few = ltb-false mostEntries (length (addRow (r .table) s row .entries)) (e .0);
           ids = subst (λ (k : ℕ). k ≤ mostIds) c m;
-          ascend = ascend-turn (eqb s 2) (r .table) s row refl (g .within .ascend) a;
+          ascend = ascend-turn (eqb s 2) (r .table) s row refl (g .kept .within .ascend) a;
         };
+        formed = formed-added (r .table) s row (g .kept .formed) f z;
+      };
       counted = c;
     }
 
@@ -150,39 +197,46 @@ abbrev Took : Admission → Type 0
 Took (admitted r) = Good r
 Took (fault k) = Unit {0}
 
-admit-good : (r : Reading) (s : ℕ) (row : List ℕ) → Good r → Took (admit r s row)
-admit-good r s row g =
+admit-good : (r : Reading) (s : ℕ) (row : List ℕ) → Good r → Formal s row → Took (admit r s row)
+admit-good r s row g f =
     by-branch Took (inOrder (r .stage) s) _ _
     (by-test Took (over (add r s row) s row) _ _ (λ o. tt)
     (λ o. by-test Took (ascends (r .table) s row) _ _
-    (λ a. by-branch Took (eqb (cell row 0) frozenEntry) _ _ tt (good-added r s row g o a))
+    (λ a. by-test Took (eqb (cell row 0) frozenEntry) _ _ (λ _. tt) (λ z. good-added r s row g o a f (eqb-false (cell row 0) frozenEntry z)))
     (λ a. tt)))
     tt
 
-form-good : (r : Reading) (m : Option (List ℕ)) → Good r → Took (inForm r m)
-form-good r none g = tt
-form-good r (some row) g = admit-good r (sectionOf (cell row 0)) row g
+form-good : (r : Reading) (m : Option (List ℕ)) → Good r → Gives Entered m → Took (inForm r m)
+form-good r none g f = tt
+form-good r (some row) g f = admit-good r (sectionOf (cell row 0)) row g f
 
 at-good : (k : ℕ) (t : Admission) → Took t → Accepts Good (atLine k t)
 at-good k (admitted r) h = h
 at-good k (fault n) h = tt
 
-begun-within : (r : Reading) (k : ℕ) → Good r → Accepts WithinS (begun r k)
-begun-within r k g = by-branch (Accepts WithinS) (eqb (r .stage) 0) _ _ tt (g .within)
+begun-kept : (r : Reading) (k : ℕ) → Good r → Accepts Kept (begun r k)
+begun-kept r k g = by-branch (Accepts Kept) (eqb (r .stage) 0) _ _ tt (g .kept)
 
 step-good : (k : ℕ) (r : Reading) (l : List ℕ) → Good r → Accepts Good (atLine k (step r l))
 unfolding step
-step-good k r l g = at-good k (inForm r (rowOf kinds l)) (form-good r (rowOf kinds l) g)
+step-good k r l g = at-good k (inForm r (rowOf kinds l)) (form-good r (rowOf kinds l) g (line-entered l))
 
-lines-within : (k : ℕ) (r : Reading) (ls : List (List ℕ)) → Good r → Accepts WithinS (lines k r ls)
-lines-within k r [] g = begun-within r k g
-lines-within k r ([] ∷ []) g = begun-within r k g
-lines-within k r ((b ∷ l) ∷ []) g = tt
-lines-within k r (l ∷ m ∷ ls) g =
-    accepts-then Good WithinS (atLine k (step r l)) (λ q. lines (suc k) q (m ∷ ls)) (step-good k r l g) (λ q h. lines-within (suc k) q (m ∷ ls) h)
+lines-kept : (k : ℕ) (r : Reading) (ls : List (List ℕ)) → Good r → Accepts Kept (lines k r ls)
+lines-kept k r [] g = begun-kept r k g
+lines-kept k r ([] ∷ []) g = begun-kept r k g
+lines-kept k r ((b ∷ l) ∷ []) g = tt
+lines-kept k r (l ∷ m ∷ ls) g =
+    accepts-then Good Kept (atLine k (step r l)) (λ q. lines (suc k) q (m ∷ ls)) (step-good k r l g) (λ q h. lines-kept (suc k) q (m ∷ ls) h)
 
 nothing-good : Good nothing
-nothing-good = record { within = record { few-names = omega arith; few = omega arith; ids = omega arith; ascend = tt }; counted = refl }
+nothing-good =
+    record {
+      kept = record {
+        within = record { few-names = omega arith; few = omega arith; ids = omega arith; ascend = tt };
+        formed = record { entries = tt; pairs = tt; marks = tt; roots = tt; signs = tt };
+      };
+      counted = refl;
+    }
 
 -- the ids, keys and names of the entry that a row says are those of the table
 abbrev pub rangeIn : List (List ℕ) → List (List ℕ) → List ℕ → Bool
@@ -198,28 +252,31 @@ pub record Whole (names entries roots : List (List ℕ)) : Type 0 where
   pub range : Each (rangeIn names entries) entries
   pub rooted : Each (rootIn entries) roots
 
-abbrev WholeS : Sections → Type 0
-WholeS s = Whole (s .names) (s .entries) (s .roots)
+pub record WholeS (s : Sections) : Type 0 where
+  pub is : Whole (s .names) (s .entries) (s .roots)
+  pub formed : Formed s
 
-table-whole : (t : Sections) → WithinS t → Accepts WholeS (inTable t)
+table-whole : (t : Sections) → Kept t → Accepts WholeS (inTable t)
 unfolding inTable
 table-whole t w =
     accepts-then (λ (_ : Unit {0}). Each (rangeIn (t .names) (t .entries)) (t .entries)) WholeS (known (rangeIn (t .names) (t .entries)) (entryLine t) (t .entries)) _
     (known-each (rangeIn (t .names) (t .entries)) (entryLine t) (t .entries))
     (λ _ h. accepts-then (λ (_ : Unit {0}). Each (rootIn (t .entries)) (t .roots)) WholeS (known (rootIn (t .entries)) (rootLine t) (t .roots)) _
     (known-each (rootIn (t .entries)) (rootLine t) (t .roots))
-    (λ _ k. record { within = w; range = h; rooted = k }))
+    (λ _ k. record { is = record { within = w .within; range = h; rooted = k }; formed = w .formed }))
 
-sections-whole : (text : List ℕ) → Accepts WholeS (sectionsOf text)
+pub sections-whole : (text : List ℕ) → Accepts WholeS (sectionsOf text)
 unfolding sectionsOf
 sections-whole text =
     by-branch (Accepts WholeS) (ltb mostText (length text)) _ _ tt
-    (accepts-then WithinS WholeS (lines 1 nothing (pieces lineFeed text)) inTable
-    (lines-within 1 nothing (pieces lineFeed text) nothing-good) table-whole)
+    (accepts-then Kept WholeS (lines 1 nothing (pieces lineFeed text)) inTable
+    (lines-kept 1 nothing (pieces lineFeed text) nothing-good) table-whole)
 
 pub record WholeTable (t : Table) : Type 0 where
   pub rows : List (List ℕ)
   pub typed : t .roots ≡ map rootOf rows
+  pub entries : Every EntryRow (t .entries)
+  pub signs : Every Signed rows
   pub is : Whole (t .names) (t .entries) rows
 
 -- what a text says is whole, where it is accepted
@@ -227,4 +284,4 @@ pub whole : (text : List ℕ) → Accepts WholeTable (tableOf text)
 unfolding tableOf
 whole text =
     accepts-then WholeS WholeTable (sectionsOf text) (λ s. accepted (fromSections s)) (sections-whole text)
-    (λ s h. record { rows = s .roots; typed = refl; is = h })
+    (λ s h. record { rows = s .roots; typed = refl; entries = h .formed .entries; signs = h .formed .signs; is = h .is })

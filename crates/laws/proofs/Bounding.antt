@@ -18,11 +18,12 @@ use Rattle.rules.specs.Types.{fieldWords, dynWords, encode, children, nodeAt, n
 use Rattle.rules.specs.Canonicalizer.{shown, refusedWith}
 use Rattle.laws.specs.Sound.{mostRootText}
 use Rattle.rules.specs.Listing.{headKinds, headText, walk, renumberField, renumberDyn, renumber, nodeText, nodeTexts, answerText, answersText}
-use Rattle.laws.proofs.Told.{by-branch}
-use Rattle.laws.proofs.Admitting.{by-test, both-parts}
-use Rattle.laws.proofs.Rooting.{under-join, under-front, under-back}
-use Rattle.laws.proofs.Spreading.{total, sumTo, walk-spread}
+use Rattle.laws.proofs.Admitting.{both-parts}
+use Rattle.laws.proofs.Spreading.{total, sumTo, spread-few}
+use Rattle.laws.proofs.Walking.{walk-spread}
+use Rattle.laws.proofs.Filtering.{under-front, under-back, under-both}
 use Rattle.cells.specs.Placed.{Under}
+use Rattle.cells.proofs.Choices.{by-branch, by-test}
 use mathlib.Core.Option.{Option, none, some, Option·getD}
 
 -- each is a number that a text may have
@@ -141,7 +142,7 @@ row-weigh b ks row s u =
     let r = shape-weigh (k .shape) (drop 1 row) (numbers-drop 1 row u) in omega arith
 
 -- a line that is no node's
-pub head-length : (row : List ℕ) → Numbers row → length (headText row) ≤ 19 + 11 * length (drop 1 row)
+head-length : (row : List ℕ) → Numbers row → length (headText row) ≤ 19 + 11 * length (drop 1 row)
 unfolding rowTexts
 head-length row u =
     let k = getD headKinds (cell row 0) noKind in
@@ -210,10 +211,14 @@ module _ (f : ℕ → ℕ) where
         let ws = a .isOpen ∷ length (a .optional) ∷ a .optional in
         let v = under-front k (fs ++ dynWords (a .dyn)) ws (u .1 .1) in
         let x = fields-numbers (a .fields) (under-front k fs (dynWords (a .dyn)) v) in
-        let y = dyn-numbers (a .dyn) (under-back k fs (dynWords (a .dyn)) v) in
-        (u .0, (omega (arith, u .1 .0, fields-count (a .fields)),
-        under-join k (gs ++ dynWords (renumberDyn f (a .dyn))) ws (under-join k gs (dynWords (renumberDyn f (a .dyn))) x y)
-        (under-back k (fs ++ dynWords (a .dyn)) ws (u .1 .1))))
+        let y = dyn-numbers (a .dyn) (under-back k fs (dynWords (a .dyn)) v) in (
+          u .0,
+          (
+            omega (arith, u .1 .0, fields-count (a .fields)),
+            under-both k (gs ++ dynWords (renumberDyn f (a .dyn))) ws (under-both k gs (dynWords (renumberDyn f (a .dyn))) x y)
+                (under-back k (fs ++ dynWords (a .dyn)) ws (u .1 .1)),
+          ),
+        )
     renumber-numbers (Union ms) u = (u .0, (omega (arith, u .1 .0, mapped-length ms), mapped-numbers ms))
     renumber-numbers (Intersection ms) u = (u .0, (omega (arith, u .1 .0, mapped-length ms), mapped-numbers ms))
     renumber-numbers (Named n a) u = (u .0, (u .1 .0, (h a, tt)))
@@ -247,14 +252,6 @@ sum-lines : (ns : List Node) (n : ℕ) → sumTo n (lineMost ns) ≡ 23 * n + 11
 sum-lines ns zero = omega arith
 sum-lines ns (suc n) = let r = sum-lines ns n in omega arith
 
-sum-ones : (n : ℕ) → sumTo n (λ (x : ℕ). 1) ≡ n
-sum-ones zero = refl
-sum-ones (suc n) = let r = sum-ones n in omega arith
-
-total-ones : (xs : List ℕ) → total (λ (x : ℕ). 1) xs ≡ length xs
-total-ones [] = refl
-total-ones (x ∷ xs) = let r = total-ones xs in omega arith
-
 nodes-length : (ns : List Node) (seen : List ℕ) (k : ℕ) (xs : List ℕ) → ((x : ℕ) → Numbers (encode (nodeAt ns x))) → length seen ≤ greatest
     → k + length xs ≤ greatest → length (nodeTexts ns seen k xs) ≤ total (lineMost ns) xs
 nodes-length ns seen k [] u s h = omega arith
@@ -273,8 +270,8 @@ pub root-bounded : {ns : List Node} → Modest ns → {x : ℕ} → x < length n
     → Numbers (id ∷ s ∷ passes ∷ ops ∷ []) → length (answerText id s (shown (record { passes = passes; operations = ops; sorted = sorted; bailed = bailed; nodes = ns; root = x }))) ≤ mostRootText
 root-bounded {ns} b {x} lt {id} {s} {passes} {ops} sorted bailed u =
     let w = walk ns x in
-    let spread = walk-spread ns (b .below) x lt in
-    let few : length w ≤ length ns = omega (arith, spread .is (λ (y : ℕ). 1), total-ones w, sum-ones (length ns)) in
+    let spread = walk-spread ns (record { is = b .below }) x lt in
+    let few : length w ≤ length ns = spread-few spread in
     let row : List ℕ = 1 ∷ id ∷ s ∷ passes ∷ ops ∷ flag sorted ∷ flag bailed ∷ length w ∷ [] in
     let marks : Numbers (flag sorted ∷ flag bailed ∷ length w ∷ []) = (flag-number sorted, (flag-number bailed, (omega (arith, b .few), tt))) in
     let h = head-length row (omega arith, (u .0, (u .1 .0, (u .1 .1 .0, (u .1 .1 .1 .0, marks))))) in

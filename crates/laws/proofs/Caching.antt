@@ -2,26 +2,27 @@
 -- they are visited. So a visit to an atom gives one of these unless the pass bailed. Assumes nothing.
 use mathlib.Core.Path.{_≡_, refl, sym, ap, _∙_, subst}
 use mathlib.Core.Bool.{Bool, true, false}
-use Prim.Native.Nat.{ℕ, zero, suc, _+_, _*_, _<_}
+use Prim.Native.Nat.{ℕ, zero, suc, _+_, _<_}
 use native.Mathlib.Omega.{arith}
 use mathlib.Core.List.{List, [], _∷_, _++_}
-use lib.ListN.{length, set as setAt, replicate, length-append, List·getD-append}
+use lib.ListN.{length, set as setAt, length-append, List·getD-append}
 use lib.Seq.{set-set, set-comm}
 use borrow.Author.Tests.{eqb-true}
 use Rattle.cells.specs.Part.{if, cell}
 use Rattle.rules.specs.Table.{Entry, var, prim, tyvar, list, fn, set, neg, named, inter, union, frozen, kids, entryKind, primEntry}
 use Rattle.rules.specs.Types.{Node, TyVar, Primitive, ListOf, Lambda, AttrSet, Union, Intersection, Named, Neg, Bottom, Top, kindOf, flip, State, ok, Run, _>>=_, refuse, nodeAt, store}
 use Rattle.rules.specs.Members.{negateNode, negateBy, negate-output-ty}
-use Rattle.rules.specs.Canonicalizer.{Pass, Reader, Visit, variable, tick, count-one, exceeds, check-budget, slot, keyAt, isPrim, isAtom, rule, work, look, entered, visit, fresh}
+use Rattle.rules.specs.Canonicalizer.{Pass, Reader, Visit, variable, tick, count-one, exceeds, check-budget, slot, keyAt, isPrim, isAtom, rule, work, look, entered, visit}
 use Rattle.laws.specs.Sound.{Tabled}
 use Rattle.rules.specs.declared.Polarity.{Polarity}
 use Rattle.rules.specs.declared.Polarity.the-variants.{Positive, Negative}
 use Rattle.laws.proofs.Rows.{by-kind}
-use Rattle.laws.proofs.Storing.{true-false, rooted-none, below-stays, node-stays, store-keeps}
+use Rattle.laws.proofs.Storing.{below-stays, node-stays, store-keeps}
 use Rattle.laws.proofs.Keeping.{parted, gave, refused-not}
 use Rattle.laws.proofs.Rooting.{Below}
-use Rattle.laws.proofs.Moving.{Moved, Stays, Firm, Goes, Goer, firm-ticked, goes-key, goes-work, visit-goes, Any, any-stays, firm-any, mover-goes, ticked, visit-moves, steady-fresh}
+use Rattle.laws.proofs.Moving.{Moved, Stays, Firm, Goes, Goer, firm-ticked, goes-key, goes-work, visit-goes, Any, any-stays, firm-any, mover-goes, ticked, visit-moves}
 use Rattle.cells.specs.Placed.{Under}
+use Rattle.cells.proofs.Choices.{true-false}
 
 -- a key that is free or names a node of kind k
 abbrev pub KeyOf : ℕ → List Node → ℕ → Type 0
@@ -71,21 +72,6 @@ module _ (t : Reader) where
 
   cached-grown : (ns ns′ more : List Node) (ks : List ℕ) → ns′ ≡ ns ++ more → Cached ns ks → Cached ns′ ks
   cached-grown ns ns′ more ks e h = subst (λ (l : List Node). Cached l ks) (sym e) (cached-stays ns more ks h)
-
-  fresh-key : (m k : ℕ) → cell (replicate m 0) k ≡ 0
-  fresh-key zero k = refl
-  fresh-key (suc m) zero = refl
-  fresh-key (suc m) (suc k) = fresh-key m k
-
-  cached-fresh : (m : ℕ) → Cached [] (replicate m 0)
-  cached-fresh m =
-      record {
-        leaves = record { is = λ id c pol e. subst (KeyOf 1 []) (sym (fresh-key m (slot id pol))) tt };
-        negs = λ id a c pol e q. subst (KeyOf 8 []) (sym (fresh-key m (slot id pol))) tt;
-      }
-
-  pub firm-fresh : (n : ℕ) → Firm n Cached (fresh n)
-  firm-fresh n = record { steady = steady-fresh n; rooted = rooted-none; held = cached-fresh (2 * n) }
 
   leaves-set : (ns : List Node) (ks : List ℕ) (id : ℕ) (pol : Polarity) (y : ℕ) → ((c : ℕ) → t id ≡ prim c → KeyOf 1 ns y) → Leaves ns ks → Leaves ns (setAt ks (slot id pol) y)
   leaves-set ns ks id pol y g l =
@@ -277,8 +263,8 @@ module _ (p : Pass) (t : Reader) (b : Tabled p t) where
     after-neg ns ks x y s l m k i (given r e) g =
         subst (Cached t ns)
         (sym (ap (λ (w : List ℕ). setAt w (slot id pol) (y + 2)) e
-          ∙ set-comm (setAt ks (slot id pol) 1) (slot a (flip pol)) (slot id pol) (x + 2) (y + 2) apart
-          ∙ ap (λ (w : List ℕ). setAt w (slot a (flip pol)) (x + 2)) (set-set ks (slot id pol) 1 (y + 2))))
+        ∙ set-comm (setAt ks (slot id pol) 1) (slot a (flip pol)) (slot id pol) (x + 2) (y + 2) apart
+        ∙ ap (λ (w : List ℕ). setAt w (slot a (flip pol)) (x + 2)) (set-set ks (slot id pol) 1 (y + 2))))
         (named-prim ns (setAt ks (slot id pol) (y + 2)) x l (i r) (named-neg ns ks y m k g))
 
     neg-work : (f : ℕ) (s : State) (x : ℕ) (st′ : State) → a < p .count → Firm (p .count) (Cached t) s → work p t (visit f p t) id pol s ≡ ok x st′ → Negated t x st′
@@ -309,7 +295,7 @@ module _ (p : Pass) (t : Reader) (b : Tabled p t) where
       → Goes (p .count) t (Cached t) Below (work p t (visit f p t) id pol) st
   works-alike f id pol st h g k x st′ e =
       let w = goes-work p t b Any any-stays (visit f p t) (mover-goes p t (visit f p t) (visit-moves p t b f)) id pol st h (λ ns ks i. tt) (λ ns ks x l i. tt)
-          (firm-any (g .steady) (g .rooted)) x st′ e in
+      (firm-any (g .steady) (g .rooted)) x st′ e in
       record { moved = w .moved; firm = record { steady = w .firm .steady; rooted = w .firm .rooted; held = k x st′ (w .fact) (w .moved) e }; fact = w .fact }
 
   neg-known : (id a : ℕ) → id < p .count → t id ≡ neg a → a < p .count

@@ -18,12 +18,13 @@ use Rattle.rules.specs.Canonicalizer.{Pass, Reader, Visit, variable, dropsNode,
 use Rattle.laws.specs.Sound.{Tabled}
 use Rattle.rules.specs.declared.Polarity.{Polarity}
 use Rattle.rules.specs.declared.Polarity.the-variants.{Positive, Negative}
-use Rattle.laws.proofs.Storing.{true-false}
 use Rattle.laws.proofs.Keeping.{parted, gave, refused-not, keeps-merge}
-use Rattle.laws.proofs.Rooting.{All, all-new, all-added, all-sieve, under-sieved, under-needed, AllBelow, roots-merge}
+use Rattle.laws.proofs.Rooting.{All, all-new, all-added, all-sieve, under-needed, AllBelow, roots-merge}
 use Rattle.laws.proofs.Moving.{Moved, Firm, Goer, goes-of, goes-factor, goes-flattened, goes-each, begin-known, distinct-known}
 use Rattle.laws.proofs.Caching.{Cached, cached-stays, cached-goes, Solid, visit-atom}
+use Rattle.laws.proofs.Filtering.{filter-under}
 use Rattle.cells.specs.Placed.{Under}
+use Rattle.cells.proofs.Choices.{true-false}
 use mathlib.Core.Option.{Option, none}
 
 -- two ways on that agree where the first step leads
@@ -243,7 +244,7 @@ concrete p st ys = filter (λ (m : ℕ). not (should-drop-filler p (st .nodes) m
 -- an expansion with one fallback is that with another, if they agree on what is left
 expand-alike : (p : Pass) (v : Visit) (rest rest′ : Run ℕ) (bs : List ℕ) (pol : Polarity) (st : State)
     → ((xs : List ℕ) (s : State) → each (λ (b : ℕ). v b pol) (deduplicated bs) st ≡ ok xs s → (ys : List ℕ) (z : State) → flattened (compositeKind pol) xs s ≡ ok ys z
-      → normalized p rest pol (concrete p z ys) z ≡ normalized p rest′ pol (concrete p z ys) z)
+    → normalized p rest pol (concrete p z ys) z ≡ normalized p rest′ pol (concrete p z ys) z)
     → expand-bounds p v rest bs pol st ≡ expand-bounds p v rest′ bs pol st
 unfolding expand-bounds
 expand-alike p v rest rest′ bs pol st h =
@@ -285,7 +286,7 @@ own-list x g Negative e = ap (λ (b : Bool). g .lower || b) e ∙ or-true (g .lo
 
 module _ (p : Pass) (t : Reader) (b : Tabled p t) (v : Visit) (mv : Goer p t (Cached t) v)
     (atoms : (id : ℕ) (pol : Polarity) (st : State) (x : ℕ) (st′ : State) → id < p .count → isAtom t (t id) ≡ true → Firm (p .count) (Cached t) st
-      → v id pol st ≡ ok x st′ → st′ .bailed ≡ false → Solid (nodeAt (st′ .nodes) x)) where
+    → v id pol st ≡ ok x st′ → st′ .bailed ≡ false → Solid (nodeAt (st′ .nodes) x)) where
   abbrev n : ℕ
   n = p .count
 
@@ -312,7 +313,7 @@ module _ (p : Pass) (t : Reader) (b : Tabled p t) (v : Visit) (mv : Goer p t (Ca
         → normalized p rest pol (concrete p z ys) z ≡ normalized p rest′ pol (concrete p z ys) z
     flat-agree pol xs s ys z f u r q =
         let k = goes-flattened n t I (cached-stays t) (compositeKind pol) xs s f u ys z q in
-        normalized-agree pol (concrete p z ys) z (k .firm) (under-sieved (length (z .nodes)) _ ys (k .fact)) (closed s z (k .moved) r)
+        normalized-agree pol (concrete p z ys) z (k .firm) (filter-under _ (length (z .nodes)) ys (k .fact)) (closed s z (k .moved) r)
 
     expand-agree : (bs : List ℕ) (pol : Polarity) (st : State) → Under n bs → Firm n I st → R st → expand-bounds p v rest bs pol st ≡ expand-bounds p v rest′ bs pol st
     expand-agree bs pol st u f r =
@@ -340,12 +341,13 @@ module _ (p : Pass) (t : Reader) (b : Tabled p t) (v : Visit) (mv : Goer p t (Ca
       let w = mv c pol st (u .0) f (m .value) (m .between) (m .first) in
       let k = goes-each p t b I (cached-stays t) v mv pol bs (m .between) (u .1) (w .firm) (r .value) (r .between) (r .first) in
       gave (λ xs s. s .bailed ≡ false → All (SolidAt (s .nodes)) xs) (r .second)
-      (λ h.
-      (solid-stays (k .moved) (w .fact) (atoms c pol st (m .value) (m .between) (u .0) (a .0) f (m .first) (not-before (m .between .bailed) (r .between .bailed) (k .moved .bailed) h)),
-        each-solid pol bs (m .between) (r .value) (r .between) (u .1) (a .1) (w .firm) (r .first) h)) where
-    solid-stays : {s y : State} {x : ℕ} → Moved n t s y → x < length (s .nodes) → Solid (nodeAt (s .nodes) x) → Solid (nodeAt (y .nodes) x)
-    solid-stays {s} {y} {x} m l h =
-        subst Solid (sym (ap (λ (ns : List Node). nodeAt ns x) (m .nodes) ∙ List·getD-append (s .nodes) (m .more) Bottom x l)) h
+      (λ h. (
+        solid-stays (k .moved) (w .fact) (atoms c pol st (m .value) (m .between) (u .0) (a .0) f (m .first) (not-before (m .between .bailed) (r .between .bailed) (k .moved .bailed) h)),
+        each-solid pol bs (m .between) (r .value) (r .between) (u .1) (a .1) (w .firm) (r .first) h,
+      )) where
+        solid-stays : {s y : State} {x : ℕ} → Moved n t s y → x < length (s .nodes) → Solid (nodeAt (s .nodes) x) → Solid (nodeAt (y .nodes) x)
+        solid-stays {s} {y} {x} m l h =
+            subst Solid (sym (ap (λ (ns : List Node). nodeAt ns x) (m .nodes) ∙ List·getD-append (s .nodes) (m .more) Bottom x l)) h
 
   -- atoms leave something before the bail, so that fallbacks need only agree after it
   module _ (rest rest′ : Run ℕ) (agree : (y : State) → Firm n I y → Bailed y → rest y ≡ rest′ y) where
@@ -383,7 +385,7 @@ module _ (p : Pass) (t : Reader) (b : Tabled p t) (v : Visit) (mv : Goer p t (Ca
 
   step-agree : (c d : ℕ) (g : Begun) (id : ℕ) (pol : Polarity) (st : State)
       → (stops g id pol st ≡ false → expand-bounds p v (fallback c (begin (st .bailed) g pol) id (flip pol)) (beginList p t id pol) (flip pol) st
-        ≡ expand-bounds p v (fallback d (begin (st .bailed) g pol) id (flip pol)) (beginList p t id pol) (flip pol) st)
+      ≡ expand-bounds p v (fallback d (begin (st .bailed) g pol) id (flip pol)) (beginList p t id pol) (flip pol) st)
       → fallback (suc c) g id pol st ≡ fallback (suc d) g id pol st
   unfolding expand-bounds-empty-fallback
   step-agree c d g id pol st h = if-agree (stops g id pol st) _ _ _ st h
@@ -433,7 +435,7 @@ module _ (p : Pass) (t : Reader) (b : Tabled p t) (v : Visit) (mv : Goer p t (Ca
       (λ y f r. positive-three c d q id y l f) (beginList p t id Negative) Positive st (begin-known p t b id Negative l) f tt)
 
   -- with more begins than the chain has, the same comes out
-  pub chain-enough : (c : ℕ) (g : Begun) (id : ℕ) (pol : Polarity) (st : State) → id < n → Firm n I st
+  chain-enough : (c : ℕ) (g : Begun) (id : ℕ) (pol : Polarity) (st : State) → id < n → Firm n I st
       → expand-bounds-empty-fallback (chain + c) p t v g id pol st ≡ expand-bounds-empty-fallback chain p t v g id pol st
   chain-enough c g id Positive st l f =
       let z : 4 + c ≡ suc (suc (suc (suc c))) = omega arith in

@@ -9,11 +9,12 @@ use mathlib.Core.List.{List, [], _∷_, List·Memᴰ, List·Memᴰ·head, List·
 use lib.ListN.{length, getD, set as setAt}
 use borrow.Author.Tests.{not-false}
 use Rattle.cells.specs.Part.{if, eqList}
+use Rattle.cells.proofs.Choices.{true-false}
 use Rattle.rules.specs.Plain.{any}
 use Rattle.rules.specs.Table.{Root, Table, entryOf, kids}
 use Rattle.rules.specs.Calls.{rowAt, differs, meets, redone}
 use Rattle.rules.specs.Chains.{StepsTo, Chain, here, onward, MeetsDifference}
-use Rattle.laws.proofs.Storing.{true-false, eqList-true, eqList-refl}
+use Rattle.laws.proofs.Storing.{eqList-true, eqList-refl}
 
 -- an entry differs exactly if its rows do
 pub differs-false : (old new : Table) (id : ℕ) → differs old new id ≡ false → rowAt old id ≡ rowAt new id
@@ -197,7 +198,7 @@ module _ (old new : Table) where
   meets-along {id} here h = record { met = id; chain = here; different = differs-either old new id h }
   meets-along (onward {id} m c) h = meets-turn (differs old new id) refl m (meets-along c h)
 
-pub meets-either : (old new : Table) (id : ℕ) → MeetsDifference old new id → MeetsDifference new old id
+meets-either : (old new : Table) (id : ℕ) → MeetsDifference old new id → MeetsDifference new old id
 meets-either old new id d = meets-along old new (d .chain) (d .different)
 
 -- so that the chains of either table tell

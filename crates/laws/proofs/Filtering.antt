@@ -9,7 +9,9 @@ use mathlib.Core.List.{List, [], _∷_, _++_}
 use lib.ListN.{length, getD, take, drop, drop-of-length-le}
 use lib.Seq.{take-suc, drop-cons}
 use Rattle.cells.specs.Part.{if}
-use Rattle.rules.specs.Plain.{any, all, filter}
+use Rattle.cells.proofs.Choices.{by-branch}
+use Rattle.rules.specs.Plain.{any, all, filter, contains, addNew}
+use Rattle.rules.specs.Members.{addAll}
 use Rattle.cells.specs.Placed.{Under}
 
 -- what a filter makes of one member
@@ -22,7 +24,7 @@ module _ (p : ℕ → Bool) where
   filter-turn true x y xs e = ap (λ (l : List ℕ). x ∷ l) e
   filter-turn false x y xs e = e
 
-  pub filter-snoc : (xs : List ℕ) (y : ℕ) → filter p (xs ++ (y ∷ [])) ≡ filter p xs ++ kept (p y) y
+  filter-snoc : (xs : List ℕ) (y : ℕ) → filter p (xs ++ (y ∷ [])) ≡ filter p xs ++ kept (p y) y
   filter-snoc [] y = refl
   filter-snoc (x ∷ xs) y = filter-turn (p x) x y xs (filter-snoc xs y)
 
@@ -30,21 +32,14 @@ module _ (p : ℕ → Bool) where
   pub filter-take : (xs : List ℕ) (i : ℕ) → i < length xs → filter p (take (suc i) xs) ≡ filter p (take i xs) ++ kept (p (getD xs i 0)) (getD xs i 0)
   filter-take xs i lt = ap (filter p) (take-suc xs i 0 lt) ∙ filter-snoc (take i xs) (getD xs i 0)
 
-  length-turn : (b : Bool) (x : ℕ) (xs : List ℕ) → length (filter p xs) ≤ length xs → length (if b (λ _. x ∷ filter p xs) (λ _. filter p xs)) ≤ suc (length xs)
-  length-turn true x xs h = omega arith
-  length-turn false x xs h = omega arith
-
   pub filter-length : (xs : List ℕ) → length (filter p xs) ≤ length xs
   filter-length [] = omega arith
-  filter-length (x ∷ xs) = length-turn (p x) x xs (filter-length xs)
-
-  under-turn : (b : Bool) (k x : ℕ) (xs : List ℕ) → x < k → Under k (filter p xs) → Under k (if b (λ _. x ∷ filter p xs) (λ _. filter p xs))
-  under-turn true k x xs lt h = (lt, h)
-  under-turn false k x xs lt h = h
+  filter-length (x ∷ xs) =
+      let h = filter-length xs in by-branch (λ (l : List ℕ). length l ≤ suc (length xs)) (p x) _ _ (omega arith) (omega arith)
 
   pub filter-under : (k : ℕ) (xs : List ℕ) → Under k xs → Under k (filter p xs)
   filter-under k [] h = tt
-  filter-under k (x ∷ xs) h = under-turn (p x) k x xs (h .0) (filter-under k xs (h .1))
+  filter-under k (x ∷ xs) h = let g = filter-under k xs (h .1) in by-branch (Under k) (p x) _ _ (h .0, g) g
 
 pub under-at : (k : ℕ) (xs : List ℕ) (i : ℕ) → Under k xs → i < length xs → getD xs i 0 < k
 under-at k [] i h lt = absurd (not-suc-le-zero lt)
@@ -58,6 +53,24 @@ under-both k (x ∷ xs) ys h g = (h .0, under-both k xs ys (h .1) g)
 pub under-most : (j k : ℕ) (xs : List ℕ) → j ≤ k → Under j xs → Under k xs
 under-most j k [] le h = tt
 under-most j k (x ∷ xs) le h = let z = h .0 in (omega arith, under-most j k xs le (h .1))
+
+-- the parts of what is put together
+pub under-front : (k : ℕ) (xs ys : List ℕ) → Under k (xs ++ ys) → Under k xs
+under-front k [] ys h = tt
+under-front k (x ∷ xs) ys h = (h .0, under-front k xs ys (h .1))
+
+pub under-back : (k : ℕ) (xs ys : List ℕ) → Under k (xs ++ ys) → Under k ys
+under-back k [] ys h = h
+under-back k (x ∷ xs) ys h = under-back k xs ys (h .1)
+
+-- x at the end of got, unless it is there; each of xs
+module _ (k : ℕ) where
+  pub under-new : (got : List ℕ) (x : ℕ) → Under k got → x < k → Under k (addNew got x)
+  under-new got x h lt = by-branch (Under k) (contains got x) (λ _. got) (λ _. got ++ (x ∷ [])) h (under-both k got (x ∷ []) h (lt, tt))
+
+  pub under-added : (got xs : List ℕ) → Under k got → Under k xs → Under k (addAll got xs)
+  under-added got [] h g = h
+  under-added got (x ∷ xs) h g = under-added (addNew got x) xs (under-new got x h (g .0)) (g .1)
 
 -- a search, at the member i of xs: what is left says what is asked
 module _ (p : ℕ → Bool) (xs : List ℕ) (i : ℕ) where

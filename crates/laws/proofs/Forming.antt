@@ -20,13 +20,12 @@ use Rattle.rules.specs.Canonicalizer.{Pass, Reader, Visit, variable, note, hasB
 use Rattle.laws.specs.Sound.{Tabled}
 use Rattle.rules.specs.declared.Polarity.{Polarity}
 use Rattle.rules.specs.declared.Polarity.the-variants.{Positive, Negative}
-use Rattle.laws.proofs.Told.{by-branch}
 use Rattle.laws.proofs.Storing.{Rooted, rooted-none, by-place, node-before, node-last}
-use Rattle.laws.proofs.Admitting.{by-test}
 use Rattle.laws.proofs.Keeping.{From, Rising, rising-of, ascending-of}
-use Rattle.laws.proofs.Rooting.{under-front, under-back, under-sieved}
 use Rattle.laws.proofs.Moving.{begin-known, distinct-known, bounds-known, visit-moves, steady-fresh}
+use Rattle.laws.proofs.Filtering.{under-front, under-back, filter-under}
 use Rattle.cells.specs.Placed.{Under}
+use Rattle.cells.proofs.Choices.{by-branch, by-test}
 use mathlib.Core.Option.{Option, none, some}
 
 -- a set's keys ascend and are names, and its open flag is 0 or 1
@@ -94,17 +93,17 @@ module _ (p : ℕ → Bool) where
   ascending-filter xs h = ascending-of (filter p xs) (rising-filter xs (rising-of xs h))
 
 module _ (names : ℕ) where
-  pub fine-none : Fine names []
+  fine-none : Fine names []
   fine-none = record { formed = λ x. tt; few = omega arith }
 
   fine-more : (n : Node) (ns : List Node) → Formed names n → length ns < mostNodes → Fine names ns → Fine names (ns ++ (n ∷ []))
   fine-more n ns f l h =
       record { formed = λ x. place x (ltb x (length (ns ++ (n ∷ [])))) refl; few = omega (arith, length-append ns (n ∷ [])) } where
-    place : (x : ℕ) (b : Bool) → ltb x (length (ns ++ (n ∷ []))) ≡ b → Formed names (nodeAt (ns ++ (n ∷ [])) x)
-    place x true e =
-        by-place ns n (λ (i : ℕ). Formed names (nodeAt (ns ++ (n ∷ [])) i))
-        (λ i lt. subst (Formed names) (sym (node-before ns n i lt)) (h .formed i)) (subst (Formed names) (sym (node-last ns n)) f) x (ltb-true x (length (ns ++ (n ∷ []))) e)
-    place x false e = subst (Formed names) (sym (List·getD-eq-default (ns ++ (n ∷ [])) Bottom (ltb-false x (length (ns ++ (n ∷ []))) e))) tt
+        place : (x : ℕ) (b : Bool) → ltb x (length (ns ++ (n ∷ []))) ≡ b → Formed names (nodeAt (ns ++ (n ∷ [])) x)
+        place x true e =
+            by-place ns n (λ (i : ℕ). Formed names (nodeAt (ns ++ (n ∷ [])) i))
+            (λ i lt. subst (Formed names) (sym (node-before ns n i lt)) (h .formed i)) (subst (Formed names) (sym (node-last ns n)) f) x (ltb-true x (length (ns ++ (n ∷ []))) e)
+        place x false e = subst (Formed names) (sym (List·getD-eq-default (ns ++ (n ∷ [])) Bottom (ltb-false x (length (ns ++ (n ∷ []))) e))) tt
 
   -- what a step comes to: fine nodes and a value that is so, or a refusal with 6 to 9
   pub data Tells {A : Type 0} (Q : A → Type 0) : Out A → Type 0 where
@@ -332,7 +331,7 @@ module _ (names : ℕ) where
         ascend = a;
         named = o .named;
         optionals = ascending-filter (optionalInAll sets) (fieldKeys gs) a;
-        others = under-sieved names (optionalInAll sets) (fieldKeys gs) (o .named);
+        others = filter-under (optionalInAll sets) names (fieldKeys gs) (o .named);
         opens = by-branch (λ (k : ℕ). k ≤ 1) (all (λ (b : Attr). eqb (b .isOpen) 1) sets) _ _ (omega arith) (omega arith);
       }))
 
@@ -442,7 +441,7 @@ module _ (names : ℕ) (p : Pass) (t : Reader) (b : FormedPass names p t) where
 
     goes-variableRule : (id : ℕ) (pol : Polarity) (bs cs : List ℕ) → id < n → Under n bs → Under n cs → Goes names (variableRule p t v id pol bs cs)
     goes-variableRule id pol bs [] h u w =
-        goes-if names (p .preserved (p .rep id)) _ _ (known-variable id h) (goes-expansion id _ pol h (under-sieved n _ bs u))
+        goes-if names (p .preserved (p .rep id)) _ _ (known-variable id h) (goes-expansion id _ pol h (filter-under _ n bs u))
     goes-variableRule id pol bs (c ∷ cs) h u w =
         goes-if names (p .preserved (p .rep id)) _ _
         (goes-bind names (expansion p t v id (c ∷ cs) pol) _ (goes-expansion id (c ∷ cs) pol h w) (λ x. goes-preserving id pol x h))
@@ -461,7 +460,7 @@ module _ (names : ℕ) (p : Pass) (t : Reader) (b : FormedPass names p t) where
         let cs = filter (λ (c : ℕ). not (isVariable (t c))) bs in
         goes-named (λ (c : ℕ). v c pol) (note (p .rep id) pol >>= (λ _. variableRule p t v id pol bs cs)) (l ++ u)
         (λ c i. mv c pol i)
-        (goes-bind names (note (p .rep id) pol) _ (λ st f. gives f tt) (λ _. goes-variableRule id pol bs cs h k (under-sieved n _ bs k))) w
+        (goes-bind names (note (p .rep id) pol) _ (λ st f. gives f tt) (λ _. goes-variableRule id pol bs cs h k (filter-under _ n bs k))) w
 
     -- sets keep their keys
     runs-types : (pol : Polarity) (fs : List Field) → Under n (fieldTypes fs) → Runs names (λ (gs : List Field). fieldKeys gs ≡ fieldKeys fs) (fieldsRule v pol fs)
@@ -566,7 +565,7 @@ module _ (names : ℕ) (p : Pass) (t : Reader) (b : FormedPass names p t) where
   visit-goes zero id pol h = goes-entered id pol (refuse 6) h (λ st f. stops (omega arith, omega arith))
   visit-goes (suc f) id pol h = goes-entered id pol (work p t (visit f p t) id pol) h (goes-work (visit f p t) (visit-goes f) id pol h)
 
-  pub pass-tells : (id : ℕ) (pol : Polarity) → id < n → Tells names (Any names) (pass p t id pol)
+  pass-tells : (id : ℕ) (pol : Polarity) → id < n → Tells names (Any names) (pass p t id pol)
   unfolding pass
   pass-tells id pol h = visit-goes mostKeys id pol h (fresh n) (fine-none names)
 

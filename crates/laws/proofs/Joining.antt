@@ -9,9 +9,9 @@ use lib.Dec.{eqb, ltb}
 use borrow.Author.Tests.{ltb-true}
 use Rattle.rules.specs.Plain.{both}
 use Rattle.rules.specs.Table.{Pair, Table, joinClasses, repIn, joinPair, joinPairs, upward, representatives}
-use Rattle.laws.proofs.Told.{by-branch}
-use Rattle.laws.proofs.Admitting.{by-test, both-parts}
+use Rattle.laws.proofs.Admitting.{both-parts}
 use Rattle.cells.specs.Placed.{Under}
+use Rattle.cells.proofs.Choices.{by-branch, by-test}
 
 -- a representative for each of n ids, each below n
 record Classes (n : ℕ) (reps : List ℕ) : Type 0 where

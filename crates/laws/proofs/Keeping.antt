@@ -19,8 +19,10 @@ use Rattle.rules.specs.Canonicalizer.{Pass, variable, concreteOf, flattened, co
 use Rattle.laws.specs.Sound.{Orderly, OrderlySet, Ordered, cellsIn, Sound, Steady}
 use Rattle.rules.specs.declared.Polarity.{Polarity}
 use Rattle.rules.specs.declared.Polarity.the-variants.{Positive, Negative}
-use Rattle.laws.proofs.Storing.{true-false, Way, refused, old, new, way, by-place, node-before, node-last}
+use Rattle.laws.proofs.Storing.{Way, refused, old, new, way, by-place, node-before, node-last}
+use Rattle.laws.proofs.Filtering.{under-most, filter-length}
 use Rattle.cells.specs.Placed.{Under}
+use Rattle.cells.proofs.Choices.{true-false}
 use mathlib.Core.Option.{Option, none, some}
 
 -- nodes are only added at the end, keys, bits, operations and the bail stay, sound stays sound
@@ -52,15 +54,11 @@ later-both {a} g h =
 pub later-length : {st st′ : State} → Later st st′ → length (st .nodes) ≤ length (st′ .nodes)
 later-length {st} l = omega (arith, ap length (l .nodes), length-append (st .nodes) (l .more))
 
-pub later-below : {st st′ : State} {x : ℕ} → Later st st′ → x < length (st .nodes) → x < length (st′ .nodes)
+later-below : {st st′ : State} {x : ℕ} → Later st st′ → x < length (st .nodes) → x < length (st′ .nodes)
 later-below l h = omega (arith, later-length l)
 
-pub under-more : {k m : ℕ} (xs : List ℕ) → k ≤ m → Under k xs → Under m xs
-under-more [] h u = tt
-under-more (x ∷ xs) h u = let lt = u .0 in (omega arith, under-more xs h (u .1))
-
 pub later-under : {st st′ : State} (xs : List ℕ) → Later st st′ → Under (length (st .nodes)) xs → Under (length (st′ .nodes)) xs
-later-under xs l u = under-more xs (later-length l) u
+later-under xs l u = under-most _ _ xs (later-length l) u
 
 pub later-node : {st st′ : State} {x : ℕ} → Later st st′ → x < length (st .nodes) → nodeAt (st′ .nodes) x ≡ nodeAt (st .nodes) x
 later-node {st} {st′} {x} l h = ap (λ (ns : List Node). nodeAt ns x) (l .nodes) ∙ List·getD-append (st .nodes) (l .more) Bottom x h
@@ -84,10 +82,10 @@ module _ (n : Node) (st : State) where
   sound-grown o s =
       record {
         ordered = record {
-            is = by-place (st .nodes) n (λ (i : ℕ). OrderlySet (asAttr (nodeAt (st .nodes ++ (n ∷ [])) i)))
-                (λ i lt. subst (λ (m : Node). OrderlySet (asAttr m)) (sym (node-before (st .nodes) n i lt)) (s .ordered .is i lt))
-                (subst (λ (m : Node). OrderlySet (asAttr m)) (sym (node-last (st .nodes) n)) o);
-          };
+          is = by-place (st .nodes) n (λ (i : ℕ). OrderlySet (asAttr (nodeAt (st .nodes ++ (n ∷ [])) i)))
+              (λ i lt. subst (λ (m : Node). OrderlySet (asAttr m)) (sym (node-before (st .nodes) n i lt)) (s .ordered .is i lt))
+              (subst (λ (m : Node). OrderlySet (asAttr m)) (sym (node-last (st .nodes) n)) o);
+        };
         counted = ap (λ (k : ℕ). k + cellsOf n) (s .counted) ∙ sym (cells-more (st .nodes) n);
       }
 
@@ -100,7 +98,7 @@ module _ (n : Node) (st : State) where
   later-by x st′ o u (new m) e = let b : grown n st ≡ st′ = cc in subst (Later st) b (later-grown u)
 
 -- a store of what is in order if the nodes before are
-pub store-later : (n : Node) (st : State) (x : ℕ) (st′ : State) → (Sound st → OrderlySet (asAttr n)) → store n st ≡ ok x st′ → Later st st′
+store-later : (n : Node) (st : State) (x : ℕ) (st′ : State) → (Sound st → OrderlySet (asAttr n)) → store n st ≡ ok x st′ → Later st st′
 store-later n st x st′ u e = later-by n st x st′ (store n st) u (way n st) e
 
 -- two steps, one behind the other, that are not refused: neither is
@@ -147,7 +145,7 @@ pub keeps-if : {A : Type 0} (b : Bool) (x y : Unit {0} → Run A) → Keeps (x t
 keeps-if true x y k l = k
 keeps-if false x y k l = l
 
-pub keeps-limit : (xs : List ℕ) → Keeps (limit xs)
+keeps-limit : (xs : List ℕ) → Keeps (limit xs)
 unfolding limit
 keeps-limit xs = keeps-if (ltb mostMembers (length xs)) _ _ (keeps-refuse 7) (keeps-give xs)
 
@@ -158,7 +156,7 @@ keeps-store n o st x st′ e = store-later n st x st′ (λ s. o) e
 abbrev pub Plain : (List ℕ → Node) → Type 0
 Plain wrap = (xs : List ℕ) → OrderlySet (asAttr (wrap xs))
 
-pub keeps-sole : (wrap : List ℕ → Node) → Plain wrap → (xs : List ℕ) → Keeps (sole wrap xs)
+keeps-sole : (wrap : List ℕ → Node) → Plain wrap → (xs : List ℕ) → Keeps (sole wrap xs)
 keeps-sole wrap o [] = keeps-give []
 keeps-sole wrap o (x ∷ []) = keeps-give (x ∷ [])
 keeps-sole wrap o (x ∷ y ∷ xs) = keeps-bind (store (wrap (x ∷ y ∷ xs))) _ (keeps-store (wrap (x ∷ y ∷ xs)) (o (x ∷ y ∷ xs))) (λ z. keeps-give (z ∷ []))
@@ -220,7 +218,7 @@ unfolding factor-shared-from-intersection
 keeps-factor ms st = keeps-factor-unions (filter (λ (m : ℕ). not (is (st .nodes) unionKind m)) ms) (filter (is (st .nodes) unionKind) ms) st
 
 -- one after another
-pub keeps-each : (f : ℕ → Run ℕ) → ((m : ℕ) → Keeps (f m)) → (ms : List ℕ) → Keeps (each f ms)
+keeps-each : (f : ℕ → Run ℕ) → ((m : ℕ) → Keeps (f m)) → (ms : List ℕ) → Keeps (each f ms)
 keeps-each f k [] = keeps-give []
 keeps-each f k (m ∷ ms) = keeps-bind (f m) _ (k m) (λ x. keeps-bind (each f ms) _ (keeps-each f k ms) (λ xs. keeps-give (x ∷ xs)))
 
@@ -280,15 +278,6 @@ from-zero (x ∷ xs) = omega arith
 -- numbers below n that ascend are at most n
 pub ascending-few : (n : ℕ) (xs : List ℕ) → ascending xs ≡ true → Under n xs → length xs ≤ n
 ascending-few n xs h u = let l = rising-few 0 n xs (omega arith) (from-zero xs) (rising-of xs h) u in omega arith
-
-module _ (p : ℕ → Bool) where
-  short-turn : (b : Bool) (x : ℕ) (xs : List ℕ) → length (filter p xs) ≤ length xs → length (if b (λ _. x ∷ filter p xs) (λ _. filter p xs)) ≤ suc (length xs)
-  short-turn true x xs h = omega arith
-  short-turn false x xs h = omega arith
-
-  pub filter-short : (xs : List ℕ) → length (filter p xs) ≤ length xs
-  filter-short [] = omega arith
-  filter-short (x ∷ xs) = short-turn (p x) x xs (filter-short xs)
 
 -- merging a field into fields
 keeps-meet : (a b : ℕ) → Keeps (meetTypes a b)
@@ -382,7 +371,9 @@ merging fs d (a ∷ sets) last st x st′ e =
     let f = merged-fields fs (a .fields) (c .between) (b .value) (b .between) (b .first) in
     let r = merging (b .value) (c .value) sets last (b .between) x st′ (b .second) in
     record {
-      got = r .got; dyn = r .dyn; between = r .between;
+      got = r .got;
+      dyn = r .dyn;
+      between = r .between;
       later = later-both (keeps-dyn d (a .dyn) st (c .value) (c .between) (c .first)) (later-both (f .later) (r .later));
       end = r .end;
       good = λ g u. r .good (f .good g (u .0)) (u .1);
@@ -409,11 +400,11 @@ merged-later : (sets : List Attr) (st : State) (x : ℕ) (st′ : State) → (Or
 merged-later sets st x st′ n e =
     let m = merging [] none sets _ st x st′ e in
     later-both (m .later) (store-later _ (m .between) x st′ (λ s. orderly (m .got) (m .good (record { rising = tt; named = tt }) (n (ordered-before (m .later) (s .ordered))))) (m .end)) where
-  orderly : (fs : List Field) {d : Option ℕ} → InOrder fs → Orderly (record { fields = fs; dyn = d; isOpen = openIfAll sets; optional = filter (optionalInAll sets) (fieldKeys fs) })
-  orderly fs g =
-      let a = ascending-of (fieldKeys fs) (g .rising) in
-      let l = ascending-few mostNames (fieldKeys fs) a (g .named) in
-      record { ascend = a; named = g .named; optional = omega (arith, filter-short (optionalInAll sets) (fieldKeys fs)) }
+      orderly : (fs : List Field) {d : Option ℕ} → InOrder fs → Orderly (record { fields = fs; dyn = d; isOpen = openIfAll sets; optional = filter (optionalInAll sets) (fieldKeys fs) })
+      orderly fs g =
+          let a = ascending-of (fieldKeys fs) (g .rising) in
+          let l = ascending-few mostNames (fieldKeys fs) a (g .named) in
+          record { ascend = a; named = g .named; optional = omega (arith, filter-length (optionalInAll sets) (fieldKeys fs)) }
 
 merge-turn : (ms others : List ℕ) (sets : List Attr) (b : Bool) (st : State) (xs : List ℕ) (st′ : State) → (Ordered (st .nodes) → NamedAll sets)
     → if b (λ _. give ms) (λ _. merged sets >>= (λ (x : ℕ). give (others ++ (x ∷ [])))) st ≡ ok xs st′ → Later st st′

@@ -74,7 +74,7 @@ pub members-alike : (ns : List Node) (f : ℕ → ℕ) → f 0 ≡ 0 → ((k : �
 members-alike ns f z h zero = z
 members-alike ns f z h (suc k) = h k ∙ ap (λ (m : ℕ). m + length (members (nodeAt ns k))) (members-alike ns f z h k)
 
-pub cells-members : (ns : List Node) (k : ℕ) → k ≤ length ns → membersTo ns k ≤ cellsIn ns
+cells-members : (ns : List Node) (k : ℕ) → k ≤ length ns → membersTo ns k ≤ cellsIn ns
 cells-members ns zero h = omega arith
 cells-members [] (suc k) h = absurd (omega arith)
 cells-members (n ∷ ns) (suc k) h = let r = cells-members ns k (omega arith) in omega (arith, members-first n ns k)

@@ -8,6 +8,7 @@ use lib.ListN.{length}
 use lib.Dec.{eqb, ltb}
 use borrow.Author.Tests.{eqb-true}
 use Rattle.cells.specs.Part.{if, eqList}
+use Rattle.cells.proofs.Choices.{by-branch, true-false}
 use Rattle.rules.specs.Plain.{any, filter, empty, both}
 use Rattle.rules.specs.Ceilings.{mostKeys}
 use Rattle.rules.specs.Table.{Pair, Root, Field, Entry, var, prim, tyvar, list, fn, set, neg, named, inter, union, frozen, entryOf, fieldTypes, dynIds, kids, Table, joinPairs, upward, representatives, repIn}
@@ -19,8 +20,7 @@ use Rattle.rules.specs.Calls.{same, samePair, sameRoot, comparable, rowAt, diff
 use Rattle.rules.specs.Chains.{StepsTo, Chain, here, onward, MeetsDifference}
 use Rattle.rules.specs.declared.Polarity.{Polarity}
 use Rattle.rules.specs.declared.Polarity.the-variants.{Positive, Negative}
-use Rattle.laws.proofs.Storing.{true-false, eqList-true}
-use Rattle.laws.proofs.Told.{by-branch}
+use Rattle.laws.proofs.Storing.{eqList-true}
 use Rattle.laws.proofs.Admitting.{both-parts}
 use Rattle.laws.proofs.Rooting.{All, all-sieve}
 use Rattle.laws.proofs.Chaining.{dedup-turn}
@@ -116,12 +116,12 @@ module _ (t t′ : Reader) (S : ℕ → Type 0) (closed : (id : ℕ) → S id �
           (λ i. do
             bailed ← hasBailed
             if (empty (beginList p t id pol) || both bailed (λ _. began g pol)) (λ _. variable p id)
-              (λ _. expand-local (fallback-local c (begin bailed g pol) id (flip pol) s) (beginList p t id pol) (flip pol) (begin-in id pol s) i))
+                (λ _. expand-local (fallback-local c (begin bailed g pol) id (flip pol) s) (beginList p t id pol) (flip pol) (begin-in id pol s) i))
           ∙ ap (λ (bs : List ℕ). do
             bailed ← hasBailed
             if (empty bs || both bailed (λ _. began g pol)) (λ _. variable p id)
-              (λ _. expand-bounds p v′ (expand-bounds-empty-fallback c p t′ v′ (begin bailed g pol) id (flip pol)) bs (flip pol)))
-            (begin-local id pol s)
+                (λ _. expand-bounds p v′ (expand-bounds-empty-fallback c p t′ v′ (begin bailed g pol) id (flip pol)) bs (flip pol)))
+          (begin-local id pol s)
 
       expansion-local : (id : ℕ) (bs : List ℕ) (pol : Polarity) → S id → All S bs → expansion p t v id bs pol ≡ expansion p t′ v′ id bs pol
       expansion-local id bs pol s a = expand-local (fallback-local chain (record { lower = false; upper = false }) id pol s) bs pol a
@@ -149,7 +149,7 @@ module _ (t t′ : Reader) (S : ℕ → Type 0) (closed : (id : ℕ) → S id �
           ∙ ap (λ (cs : List ℕ). do
             _ ← note (p .rep id) pol
             variableRule p t′ v′ id pol bs cs)
-            (filter-local S (λ b r. ap (λ (e : Entry). not (isVariable e)) (same b r)) bs known))
+          (filter-local S (λ b r. ap (λ (e : Entry). not (isVariable e)) (same b r)) bs known))
 
       fields-local : (pol : Polarity) (fs : List Field) → All S (fieldTypes fs) → fieldsRule v pol fs ≡ fieldsRule v′ pol fs
       fields-local pol [] a = refl
@@ -184,8 +184,8 @@ module _ (t t′ : Reader) (S : ℕ → Type 0) (closed : (id : ℕ) → S id �
         ms ← concreteOf p ys
         contradicts ← ask (λ (ns : List Node). has-type-contradiction (p .functor) ns ms)
         if contradicts
-          (λ _. if (isVariable (same a r i) || isVariable (same b s i)) (λ _. retry-local a b pol ys r s i) (λ _. store Bottom))
-          (λ _. interRest p pol ys ms)
+            (λ _. if (isVariable (same a r i) || isVariable (same b s i)) (λ _. retry-local a b pol ys r s i) (λ _. store Bottom))
+            (λ _. interRest p pol ys ms)
 
       union-local : (a b : ℕ) (pol : Polarity) → S a → S b → unionRule p v a b pol ≡ unionRule p v′ a b pol
       unfolding unionRule
@@ -230,7 +230,7 @@ module _ (t t′ : Reader) (S : ℕ → Type 0) (closed : (id : ℕ) → S id �
         _ ← setKey (slot id pol) (x + 2)
         give x
 
-    pub visit-local : (f : ℕ) (id : ℕ) → S id → visit f p t id ≡ visit f p t′ id
+    visit-local : (f : ℕ) (id : ℕ) → S id → visit f p t id ≡ visit f p t′ id
     unfolding visit
     visit-local zero id s = refl
     visit-local (suc f) id s = λ i pol. entered p id pol (work-local (visit f p t) (visit f p t′) (visit-local f) id pol s i)

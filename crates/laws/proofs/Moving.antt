@@ -6,7 +6,7 @@ use Prim.Native.Nat.{ℕ, zero, suc, _+_, _*_, _≤_, _<_}
 use native.Mathlib.Omega.{arith}
 use native.Mathlib.Nat.{not-suc-le-zero}
 use mathlib.Core.List.{List, [], _∷_, _++_, append-nil, append-assoc}
-use lib.ListN.{length, set as setAt, length-append, length-set, length-replicate, replicate}
+use lib.ListN.{length, set as setAt, length-append, length-set, length-replicate}
 use lib.Dec.{ltb}
 use borrow.Author.Tests.{ltb-true}
 use Rattle.cells.specs.Part.{if, cell}
@@ -19,11 +19,14 @@ use Rattle.rules.specs.Canonicalizer.{Pass, Reader, Visit, variable, addBit, no
 use Rattle.laws.specs.Sound.{Orderly, OrderlySet, Steady, load, Tabled}
 use Rattle.rules.specs.declared.Polarity.{Polarity}
 use Rattle.rules.specs.declared.Polarity.the-variants.{Positive, Negative}
-use Rattle.laws.proofs.Storing.{true-false, Rooted}
-use Rattle.laws.proofs.Keeping.{Later, later-none, later-steady, parted, gave, refused-not, under-more, Keeps, Plain, keeps-store, keeps-variable, keeps-flattened, keeps-merge, keeps-factor, keeps-simplify, keeps-negate, keeps-preserving, keeps-firstOf, keeps-interRest, keeps-unionNormalized}
+use Rattle.laws.proofs.Storing.{Rooted}
+use Rattle.laws.proofs.Keeping.{Later, later-none, later-steady, parted, gave, refused-not, Keeps, Plain, keeps-store, keeps-variable, keeps-flattened, keeps-merge, keeps-factor, keeps-simplify, keeps-negate, keeps-preserving, keeps-firstOf, keeps-interRest, keeps-unionNormalized}
 use Rattle.laws.proofs.Loading.{load-keep}
-use Rattle.laws.proofs.Rooting.{under-join, under-front, under-back, under-sieved, under-added, under-absorbed, under-cancelled, under-needed, Roots, Below, AllBelow, Wraps, roots-store, roots-variable, roots-flattened, roots-merge, roots-factor, roots-simplify, roots-negate, roots-preserving, roots-firstOf, roots-interRest, roots-unionNormalized}
+use Rattle.laws.proofs.Rooting.{under-absorbed, under-cancelled, under-needed, Roots, Below, AllBelow, Wraps, roots-store, roots-variable, roots-flattened, roots-merge, roots-factor, roots-simplify, roots-negate, roots-preserving, roots-firstOf, roots-interRest, roots-unionNormalized}
+use Rattle.laws.proofs.Filtering.{under-front, under-back, under-both, under-added, filter-under, under-most}
 use Rattle.cells.specs.Placed.{Under}
+use Rattle.cells.proofs.Choices.{true-false}
+use Rattle.cells.proofs.Parts.{cell-zero}
 use mathlib.Core.Option.{Option, none, some}
 
 -- nodes are only added at the end, steady stays steady, bailed stays bailed, operations are counted up to their ceiling, and no key goes free
@@ -40,7 +43,10 @@ pub record Moved (n : ℕ) (t : Reader) (st st′ : State) : Type 0 where
 pub moved-later : {n : ℕ} {t : Reader} {st st′ : State} → Later st st′ → Moved n t st st′
 moved-later {t = t} l =
     record {
-      more = l .more; nodes = l .nodes; steady = λ s. later-steady l s; bailed = λ h. l .bailed ∙ h;
+      more = l .more;
+      nodes = l .nodes;
+      steady = λ s. later-steady l s;
+      bailed = λ h. l .bailed ∙ h;
       counted = λ h. let e = l .ops in omega arith;
       sized = ap length (l .keys);
       load = λ e. let z = ap (load t 0) (l .keys) in omega arith;
@@ -61,14 +67,11 @@ moved-both {a = a} g h =
       load = λ e. omega (arith, g .load e, h .load (g .sized ∙ e));
     }
 
-pub moved-length : {n : ℕ} {t : Reader} {st st′ : State} → Moved n t st st′ → length (st .nodes) ≤ length (st′ .nodes)
+moved-length : {n : ℕ} {t : Reader} {st st′ : State} → Moved n t st st′ → length (st .nodes) ≤ length (st′ .nodes)
 moved-length {st = st} m = omega (arith, ap length (m .nodes), length-append (st .nodes) (m .more))
 
-pub moved-below : {n : ℕ} {t : Reader} {st st′ : State} {x : ℕ} → Moved n t st st′ → x < length (st .nodes) → x < length (st′ .nodes)
-moved-below m h = omega (arith, moved-length m)
-
 pub moved-under : {n : ℕ} {t : Reader} {st st′ : State} (xs : List ℕ) → Moved n t st st′ → Under (length (st .nodes)) xs → Under (length (st′ .nodes)) xs
-moved-under xs m u = under-more xs (moved-length m) u
+moved-under xs m u = under-most _ _ xs (moved-length m) u
 
 -- what more may hold of nodes and keys, and stays when nodes are added
 abbrev pub Held : Type 1
@@ -126,14 +129,14 @@ module _ (n : ℕ) (t : Reader) (I : Held) (stays : Stays I) where
       let h = l (c .value) (c .between) (moved-length (g .moved)) (g .firm) (g .fact) b st′ (c .second) in
       record { moved = moved-both (g .moved) (h .moved); firm = h .firm; fact = h .fact }
 
-  pub goes-if : {A : Type 0} (Q : ℕ → A → Type 0) (b : Bool) (x y : Unit {0} → Run A) (st : State) → Goes n t I Q (x tt) st → Goes n t I Q (y tt) st → Goes n t I Q (if b x y) st
+  goes-if : {A : Type 0} (Q : ℕ → A → Type 0) (b : Bool) (x y : Unit {0} → Run A) (st : State) → Goes n t I Q (x tt) st → Goes n t I Q (y tt) st → Goes n t I Q (if b x y) st
   goes-if Q true x y st k l = k
   goes-if Q false x y st k l = l
 
-  pub goes-store : (m : Node) (st : State) → Firm n I st → OrderlySet (asAttr m) → Under (length (st .nodes)) (children m) → Goes n t I Below (store m) st
+  goes-store : (m : Node) (st : State) → Firm n I st → OrderlySet (asAttr m) → Under (length (st .nodes)) (children m) → Goes n t I Below (store m) st
   goes-store m st f o u = goes-of Below (store m) st f (keeps-store m o) (roots-store m st (f .rooted) u)
 
-  pub goes-variable : (p : Pass) (id : ℕ) (st : State) → Firm n I st → Goes n t I Below (variable p id) st
+  goes-variable : (p : Pass) (id : ℕ) (st : State) → Firm n I st → Goes n t I Below (variable p id) st
   goes-variable p id st f = goes-of Below (variable p id) st f (keeps-variable p id) (roots-variable p id st (f .rooted))
 
   pub goes-flattened : (k : ℕ) (xs : List ℕ) (st : State) → Firm n I st → Under (length (st .nodes)) xs → Goes n t I AllBelow (flattened k xs) st
@@ -142,24 +145,24 @@ module _ (n : ℕ) (t : Reader) (I : Held) (stays : Stays I) where
   pub goes-factor : (ms : List ℕ) (st : State) → Firm n I st → Under (length (st .nodes)) ms → Goes n t I AllBelow (factor-shared-from-intersection ms) st
   goes-factor ms st f u = goes-of AllBelow (factor-shared-from-intersection ms) st f (keeps-factor ms) (roots-factor ms st (f .rooted) u)
 
-  pub goes-simplify : (functor : ℕ) (ms : List ℕ) (st : State) → Firm n I st → Under (length (st .nodes)) ms → Goes n t I AllBelow (simplify-union-neg-intersection functor ms) st
+  goes-simplify : (functor : ℕ) (ms : List ℕ) (st : State) → Firm n I st → Under (length (st .nodes)) ms → Goes n t I AllBelow (simplify-union-neg-intersection functor ms) st
   goes-simplify functor ms st f u =
       goes-of AllBelow (simplify-union-neg-intersection functor ms) st f (keeps-simplify functor ms) (roots-simplify functor ms st (f .rooted) u)
 
-  pub goes-interRest : (p : Pass) (pol : Polarity) (ys ms : List ℕ) (st : State) → Firm n I st → Under (length (st .nodes)) ys → Under (length (st .nodes)) ms
+  goes-interRest : (p : Pass) (pol : Polarity) (ys ms : List ℕ) (st : State) → Firm n I st → Under (length (st .nodes)) ys → Under (length (st .nodes)) ms
       → Goes n t I Below (interRest p pol ys ms) st
   goes-interRest p pol ys ms st f u v =
       goes-of Below (interRest p pol ys ms) st f (keeps-interRest p pol ys ms) (roots-interRest p pol ys ms st (f .rooted) u v)
 
   -- the result of a list, once its fallback goes
-  pub goes-settle : (cancelled : Bool) (rest : Run ℕ) (wrap : List ℕ → Node) (xs : List ℕ) (st : State) → Plain wrap → Wraps wrap → Firm n I st → Under (length (st .nodes)) xs
+  goes-settle : (cancelled : Bool) (rest : Run ℕ) (wrap : List ℕ → Node) (xs : List ℕ) (st : State) → Plain wrap → Wraps wrap → Firm n I st → Under (length (st .nodes)) xs
       → Goes n t I Below rest st → Goes n t I Below (settle cancelled rest wrap xs) st
   goes-settle cancelled rest wrap [] st o w f u k = goes-if Below cancelled _ _ st (goes-store Top st f tt tt) k
   goes-settle cancelled rest wrap (x ∷ []) st o w f u k = goes-give Below x st f (u .0)
   goes-settle cancelled rest wrap (x ∷ y ∷ xs) st o w f u k =
       goes-store (wrap (x ∷ y ∷ xs)) st f (o (x ∷ y ∷ xs)) (w (length (st .nodes)) (x ∷ y ∷ xs) u)
 
-  pub goes-normalized : (p : Pass) (rest : Run ℕ) (pol : Polarity) (ms : List ℕ) (st : State) → ((s : State) → Firm n I s → Goes n t I Below rest s) → Firm n I st
+  goes-normalized : (p : Pass) (rest : Run ℕ) (pol : Polarity) (ms : List ℕ) (st : State) → ((s : State) → Firm n I s → Goes n t I Below rest s) → Firm n I st
       → Under (length (st .nodes)) ms → Goes n t I Below (normalized p rest pol ms) st
   goes-normalized p rest Positive ms st k f u =
       goes-settle (topIfEmptied Positive ms) rest Union (absorb-subsumed-union-members (st .nodes) (remove-tautological-pairs (st .nodes) ms)) st
@@ -181,11 +184,11 @@ module _ (n : ℕ) (t : Reader) (I : Held) (stays : Stays I) where
   abbrev pub Done : {A : Type 0} → ℕ → A → Type 0
   Done k a = Unit {0}
 
-  pub went-on : {A : Type 0} (a : A) (st : State) (ks bs : List ℕ) (o : ℕ) (z b : Bool) → Firm n I st → length ks ≡ length (st .keys) → length bs ≡ length (st .bits)
+  went-on : {A : Type 0} (a : A) (st : State) (ks bs : List ℕ) (o : ℕ) (z b : Bool) → Firm n I st → length ks ≡ length (st .keys) → length bs ≡ length (st .bits)
       → ((k : ℕ) → cell ks k < length (st .nodes) + 2) → load t 0 ks ≤ load t 0 (st .keys) → (st .bailed ≡ true → b ≡ true) → (st .ops ≤ mostOperations → o ≤ mostOperations) → I (st .nodes) ks → Went n t I (Done {A = A}) st a (remade st ks bs o z b)
   went-on a st ks bs o z b f c d h l q m i =
       let steady : Steady n st → Steady n (remade st ks bs o z b) =
-          λ s. record { sound = record { ordered = s .sound .ordered; counted = s .sound .counted }; keys = c ∙ s .keys; bits = d ∙ s .bits; stored = h } in
+      λ s. record { sound = record { ordered = s .sound .ordered; counted = s .sound .counted }; keys = c ∙ s .keys; bits = d ∙ s .bits; stored = h } in
       record {
         moved = record { more = []; nodes = sym (append-nil (st .nodes)); steady = steady; bailed = q; counted = m; sized = c; load = λ e. l };
         firm = record { steady = steady (f .steady); rooted = f .rooted; held = i };
@@ -210,7 +213,7 @@ module _ (n : ℕ) (t : Reader) (I : Held) (stays : Stays I) where
         held = f .held;
       }
 
-  pub went-ticked : (p : Pass) (st : State) → st .bailed ≡ false → Firm n I st → Went n t I (Done {A = Unit {0}}) st tt (ticked p st)
+  went-ticked : (p : Pass) (st : State) → st .bailed ≡ false → Firm n I st → Went n t I (Done {A = Unit {0}}) st tt (ticked p st)
   went-ticked p st e f =
       went-on tt st (st .keys) (st .bits) (tick (st .ops)) (st .sorted) (exceeds p (tick (st .ops))) f refl refl (f .steady .stored) (omega arith)
       (λ h. true-false (sym h ∙ e)) (tick-most (st .ops)) (f .held)
@@ -236,7 +239,7 @@ module _ (n : ℕ) (t : Reader) (I : Held) (stays : Stays I) where
 abbrev pub Goer : Pass → Reader → Held → Visit → Type 0
 Goer p t I v = (id : ℕ) (pol : Polarity) (st : State) → id < p .count → Firm (p .count) I st → Goes (p .count) t I Below (v id pol) st
 
-pub lowers-known : (n : ℕ) (e : Entry) → Under n (kids e) → Under n (lowers e)
+lowers-known : (n : ℕ) (e : Entry) → Under n (kids e) → Under n (lowers e)
 lowers-known n (var l u) h = under-front n l u h
 lowers-known n (prim c) h = tt
 lowers-known n (tyvar x) h = tt
@@ -249,7 +252,7 @@ lowers-known n (inter a b) h = tt
 lowers-known n (union a b) h = tt
 lowers-known n frozen h = tt
 
-pub uppers-known : (n : ℕ) (e : Entry) → Under n (kids e) → Under n (uppers e)
+uppers-known : (n : ℕ) (e : Entry) → Under n (kids e) → Under n (uppers e)
 uppers-known n (var l u) h = under-back n l u h
 uppers-known n (prim c) h = tt
 uppers-known n (tyvar x) h = tt
@@ -262,14 +265,14 @@ uppers-known n (inter a b) h = tt
 uppers-known n (union a b) h = tt
 uppers-known n frozen h = tt
 
-pub unmarked-known : (n : ℕ) (b : Bool) (xs : List ℕ) → Under n xs → Under n (if b (λ _. []) (λ _. xs))
+unmarked-known : (n : ℕ) (b : Bool) (xs : List ℕ) → Under n xs → Under n (if b (λ _. []) (λ _. xs))
 unmarked-known n true xs u = tt
 unmarked-known n false xs u = u
 
 -- the ids that a fallback begins are entries
 pub begin-known : (p : Pass) (t : Reader) → Tabled p t → (id : ℕ) (pol : Polarity) → id < p .count → Under (p .count) (beginList p t id pol)
 begin-known p t b id Negative h = unmarked-known (p .count) (p .marked id || p .marked (p .rep id)) (lowers (t id)) (lowers-known (p .count) (t id) (b .known id h))
-begin-known p t b id Positive h = under-sieved (p .count) _ (uppers (t id)) (uppers-known (p .count) (t id) (b .known id h))
+begin-known p t b id Positive h = filter-under _ (p .count) (uppers (t id)) (uppers-known (p .count) (t id) (b .known id h))
 
 distinct-turn : (n : ℕ) (b : Bool) (bs : List ℕ) → Under n bs → Under n (if b (λ _. addAll [] bs) (λ _. bs))
 distinct-turn n true bs u = under-added n [] bs tt u
@@ -307,7 +310,7 @@ module _ (p : Pass) (t : Reader) (b : Tabled p t) (I : Held) (stays : Stays I) (
       (λ xs z i f w. goes-give n t I stays (Answers (c ∷ bs)) (x ∷ xs) z f (record { below = (omega arith, w .below); many = ap suc (w .many) })))
 
   -- expansion of bounds and its fallback
-  pub goes-expand : (rest : Run ℕ) → ((s : State) → Firm n I s → Goes n t I Below rest s) → (bs : List ℕ) (pol : Polarity) (st : State) → Under n bs → Firm n I st
+  goes-expand : (rest : Run ℕ) → ((s : State) → Firm n I s → Goes n t I Below rest s) → (bs : List ℕ) (pol : Polarity) (st : State) → Under n bs → Firm n I st
       → Goes n t I Below (expand-bounds p v rest bs pol) st
   unfolding expand-bounds
   goes-expand rest k bs pol st u f =
@@ -315,9 +318,9 @@ module _ (p : Pass) (t : Reader) (b : Tabled p t) (I : Held) (stays : Stays I) (
       (goes-each pol (deduplicated bs) st (distinct-known n bs u) f)
       (λ xs s g f w. goes-bind n t I stays AllBelow Below (flattened (compositeKind pol) xs) _ s (goes-flattened n t I stays (compositeKind pol) xs s f (w .below))
       (λ ys z h f w. goes-normalized n t I stays p rest pol (filter (λ (m : ℕ). not (should-drop-filler p (z .nodes) m)) ys) z k f
-      (under-sieved (length (z .nodes)) _ ys w)))
+      (filter-under _ (length (z .nodes)) ys w)))
 
-  pub goes-fallback : (c : ℕ) (g : Begun) (id : ℕ) (pol : Polarity) (st : State) → id < n → Firm n I st → Goes n t I Below (expand-bounds-empty-fallback c p t v g id pol) st
+  goes-fallback : (c : ℕ) (g : Begun) (id : ℕ) (pol : Polarity) (st : State) → id < n → Firm n I st → Goes n t I Below (expand-bounds-empty-fallback c p t v g id pol) st
   unfolding expand-bounds-empty-fallback
   goes-fallback zero g id pol st h f = goes-variable n t I stays p id st f
   goes-fallback (suc c) g id pol st h f =
@@ -331,22 +334,22 @@ module _ (p : Pass) (t : Reader) (b : Tabled p t) (I : Held) (stays : Stays I) (
       (λ s f. goes-fallback chain (record { lower = false; upper = false }) id pol s h f) bs pol st u f
 
   -- a variable
-  pub goes-variableRule : (id : ℕ) (pol : Polarity) (bs cs : List ℕ) (st : State) → id < n → Under n bs → Under n cs → Firm n I st
+  goes-variableRule : (id : ℕ) (pol : Polarity) (bs cs : List ℕ) (st : State) → id < n → Under n bs → Under n cs → Firm n I st
       → Goes n t I Below (variableRule p t v id pol bs cs) st
   goes-variableRule id pol bs [] st h u w f =
-      goes-if n t I stays Below (p .preserved (p .rep id)) _ _ st (goes-variable n t I stays p id st f) (goes-expansion id _ pol st h (under-sieved n _ bs u) f)
+      goes-if n t I stays Below (p .preserved (p .rep id)) _ _ st (goes-variable n t I stays p id st f) (goes-expansion id _ pol st h (filter-under _ n bs u) f)
   goes-variableRule id pol bs (c ∷ cs) st h u w f =
       goes-if n t I stays Below (p .preserved (p .rep id)) _ _ st
       (goes-bind n t I stays Below Below (expansion p t v id (c ∷ cs) pol) _ st (goes-expansion id (c ∷ cs) pol st h w f)
       (λ x s g f l. goes-of n t I stays Below (preserving p id pol x) s f (keeps-preserving p id pol x) (roots-preserving p id pol x s (f .rooted) l)))
       (goes-expansion id (c ∷ cs) pol st h w f)
 
-  pub goes-named : (hit : ℕ → Run ℕ) (miss : Run ℕ) (bs : List ℕ) (st : State) → ((c : ℕ) → c < n → Goes n t I Below (hit c) st) → Goes n t I Below miss st → Under n bs
+  goes-named : (hit : ℕ → Run ℕ) (miss : Run ℕ) (bs : List ℕ) (st : State) → ((c : ℕ) → c < n → Goes n t I Below (hit c) st) → Goes n t I Below miss st → Under n bs
       → Goes n t I Below (namedBound t hit miss bs) st
   goes-named hit miss [] st k l u = l
   goes-named hit miss (c ∷ bs) st k l u = goes-if n t I stays Below (isNamed (t c)) _ _ st (k c (u .0)) (goes-named hit miss bs st k l (u .1))
 
-  pub goes-inner : (id : ℕ) (l u : List ℕ) (pol : Polarity) (st : State) → id < n → Under n (l ++ u) → Firm n I st → Goes n t I Below (canonicalize-inner p t v id l u pol) st
+  goes-inner : (id : ℕ) (l u : List ℕ) (pol : Polarity) (st : State) → id < n → Under n (l ++ u) → Firm n I st → Goes n t I Below (canonicalize-inner p t v id l u pol) st
   unfolding canonicalize-inner
   goes-inner id l u pol st h w f =
       let bs = boundsOf pol l u in
@@ -355,10 +358,10 @@ module _ (p : Pass) (t : Reader) (b : Tabled p t) (I : Held) (stays : Stays I) (
       goes-named (λ (c : ℕ). v c pol) (note (p .rep id) pol >>= (λ _. variableRule p t v id pol bs cs)) (l ++ u) st
       (λ c i. mv c pol st i f)
       (goes-bind n t I stays (Done n t I stays) Below (note (p .rep id) pol) _ st (goes-note n t I stays (p .rep id) pol st f)
-      (λ _ s g f _. goes-variableRule id pol bs cs s h k (under-sieved n _ bs k) f)) w
+      (λ _ s g f _. goes-variableRule id pol bs cs s h k (filter-under _ n bs k) f)) w
 
   -- sets
-  pub goes-fields : (pol : Polarity) (fs : List Field) (st : State) → Under n (fieldTypes fs) → Firm n I st → Goes n t I (Typed fs) (fieldsRule v pol fs) st
+  goes-fields : (pol : Polarity) (fs : List Field) (st : State) → Under n (fieldTypes fs) → Firm n I st → Goes n t I (Typed fs) (fieldsRule v pol fs) st
   goes-fields pol [] st u f = goes-give n t I stays (Typed []) [] st f (record { below = tt; keys = refl })
   goes-fields pol (c ∷ fs) st u f =
       goes-bind n t I stays Below (Typed (c ∷ fs)) (v (c .type) pol) _ st (mv (c .type) pol st (u .0) f)
@@ -366,7 +369,7 @@ module _ (p : Pass) (t : Reader) (b : Tabled p t) (I : Held) (stays : Stays I) (
       (λ gs z i f w. goes-give n t I stays (Typed (c ∷ fs)) (record { key = c .key; type = x } ∷ gs) z f
       (record { below = (omega arith, w .below); keys = ap (λ (ks : List ℕ). c .key ∷ ks) (w .keys) })))
 
-  pub goes-dyn : (pol : Polarity) (d : Option ℕ) (st : State) → Under n (dynIds d) → Firm n I st → Goes n t I DynBelow (dynRule v pol d) st
+  goes-dyn : (pol : Polarity) (d : Option ℕ) (st : State) → Under n (dynIds d) → Firm n I st → Goes n t I DynBelow (dynRule v pol d) st
   goes-dyn pol none st u f = goes-give n t I stays DynBelow none st f tt
   goes-dyn pol (some d) st u f =
       goes-bind n t I stays Below DynBelow (v d pol) _ st (mv d pol st (u .0) f) (λ x s g f h. goes-give n t I stays DynBelow (some x) s f (h, tt))
@@ -376,16 +379,16 @@ module _ (p : Pass) (t : Reader) (b : Tabled p t) (I : Held) (stays : Stays I) (
   orderly-same a gs e o =
       record { ascend = ap ascending e ∙ o .ascend; named = subst (Under mostNames) (sym e) (o .named); optional = o .optional }
 
-  pub goes-set : (a : Attr) (pol : Polarity) (st : State) → Under n (fieldTypes (a .fields) ++ dynIds (a .dyn)) → Orderly a → Firm n I st
+  goes-set : (a : Attr) (pol : Polarity) (st : State) → Under n (fieldTypes (a .fields) ++ dynIds (a .dyn)) → Orderly a → Firm n I st
       → Goes n t I Below (fieldsRule v pol (a .fields) >>= (λ (fs : List Field). dynRule v pol (a .dyn) >>= (λ (d : Option ℕ). store (AttrSet (record { fields = fs; dyn = d; isOpen = a .isOpen; optional = a .optional }))))) st
   goes-set a pol st u o f =
       goes-bind n t I stays (Typed (a .fields)) Below (fieldsRule v pol (a .fields)) _ st (goes-fields pol (a .fields) st (under-front n (fieldTypes (a .fields)) (dynIds (a .dyn)) u) f)
       (λ gs s g f w. goes-bind n t I stays DynBelow Below (dynRule v pol (a .dyn)) _ s (goes-dyn pol (a .dyn) s (under-back n (fieldTypes (a .fields)) (dynIds (a .dyn)) u) f)
       (λ d z h f x. goes-store n t I stays _ z f (orderly-same a gs (w .keys) o)
-      (under-join (length (z .nodes)) (fieldTypes gs) (dynIds d) (under-more (fieldTypes gs) h (w .below)) x)))
+      (under-both (length (z .nodes)) (fieldTypes gs) (dynIds d) (under-most _ _ (fieldTypes gs) h (w .below)) x)))
 
   -- intersections and unions
-  pub goes-retry : (x y : ℕ) (pol : Polarity) (ys : List ℕ) (st : State) → x < n → y < n → Firm n I st → Under (length (st .nodes)) ys → Goes n t I Below (interRetry p t v x y pol ys) st
+  goes-retry : (x y : ℕ) (pol : Polarity) (ys : List ℕ) (st : State) → x < n → y < n → Firm n I st → Under (length (st .nodes)) ys → Goes n t I Below (interRetry p t v x y pol ys) st
   unfolding interRetry
   goes-retry x y pol ys st h i f u =
       goes-bind n t I stays Below Below (v x (turned (t x) pol)) _ st (mv x (turned (t x) pol) st h f)
@@ -393,11 +396,11 @@ module _ (p : Pass) (t : Reader) (b : Tabled p t) (I : Held) (stays : Stays I) (
       (λ c z k f l. goes-bind n t I stays AllBelow Below (flattened intersectionKind (a ∷ c ∷ [])) _ z (goes-flattened n t I stays intersectionKind (a ∷ c ∷ []) z f (omega arith, (l, tt)))
       (λ zs r o f w.
       let ms = filter (λ (m : ℕ). not (should-drop-filler p (r .nodes) m)) zs in
-      goes-bind n t I stays AllBelow Below (simplify-union-neg-intersection (p .functor) ms) _ r (goes-simplify n t I stays (p .functor) ms r f (under-sieved (length (r .nodes)) _ zs w))
+      goes-bind n t I stays AllBelow Below (simplify-union-neg-intersection (p .functor) ms) _ r (goes-simplify n t I stays (p .functor) ms r f (filter-under _ (length (r .nodes)) zs w))
       (λ simple q e f w. goes-if n t I stays Below (has-type-contradiction (p .functor) (q .nodes) simple) _ _ q (goes-store n t I stays Bottom q f tt tt)
-      (goes-interRest n t I stays p pol ys simple q f (under-more ys (omega arith) u) w)))))
+      (goes-interRest n t I stays p pol ys simple q f (under-most _ _ ys (omega arith) u) w)))))
 
-  pub goes-inter : (x y : ℕ) (pol : Polarity) (st : State) → x < n → y < n → Firm n I st → Goes n t I Below (interRule p t v x y pol) st
+  goes-inter : (x y : ℕ) (pol : Polarity) (st : State) → x < n → y < n → Firm n I st → Goes n t I Below (interRule p t v x y pol) st
   unfolding interRule
   goes-inter x y pol st h i f =
       goes-bind n t I stays Below Below (v x pol) _ st (mv x pol st h f)
@@ -407,9 +410,9 @@ module _ (p : Pass) (t : Reader) (b : Tabled p t) (I : Held) (stays : Stays I) (
       let ms = filter (λ (m : ℕ). not (should-drop-filler p (r .nodes) m)) ys in
       goes-if n t I stays Below (has-type-contradiction (p .functor) (r .nodes) ms) _ _ r
       (goes-if n t I stays Below (isVariable (t x) || isVariable (t y)) _ _ r (goes-retry x y pol ys r h i f w) (goes-store n t I stays Bottom r f tt tt))
-      (goes-interRest n t I stays p pol ys ms r f w (under-sieved (length (r .nodes)) _ ys w)))))
+      (goes-interRest n t I stays p pol ys ms r f w (filter-under _ (length (r .nodes)) ys w)))))
 
-  pub goes-union : (x y : ℕ) (pol : Polarity) (st : State) → x < n → y < n → Firm n I st → Goes n t I Below (unionRule p v x y pol) st
+  goes-union : (x y : ℕ) (pol : Polarity) (st : State) → x < n → y < n → Firm n I st → Goes n t I Below (unionRule p v x y pol) st
   unfolding unionRule
   goes-union x y pol st h i f =
       goes-bind n t I stays Below Below (v x pol) _ st (mv x pol st h f)
@@ -418,9 +421,9 @@ module _ (p : Pass) (t : Reader) (b : Tabled p t) (I : Held) (stays : Stays I) (
       (λ ys r o f w.
       let ms = filter (λ (m : ℕ). not (should-drop-filler p (r .nodes) m)) ys in
       goes-bind n t I stays AllBelow Below (unionNormalized pol ms) _ r
-      (goes-of n t I stays AllBelow (unionNormalized pol ms) r f (keeps-unionNormalized pol ms) (roots-unionNormalized pol ms r (f .rooted) (under-sieved (length (r .nodes)) _ ys w)))
+      (goes-of n t I stays AllBelow (unionNormalized pol ms) r f (keeps-unionNormalized pol ms) (roots-unionNormalized pol ms r (f .rooted) (filter-under _ (length (r .nodes)) ys w)))
       (λ xs q e f u. goes-settle n t I stays (topIfEmptied pol ms) (firstMember ys) Union xs q (λ zs. tt) (λ k zs o. o) f u
-      (goes-of n t I stays Below (firstMember ys) q f (keeps-firstOf ys) (roots-firstOf ys q (f .rooted) (under-more ys (omega arith) w)))))))
+      (goes-of n t I stays Below (firstMember ys) q f (keeps-firstOf ys) (roots-firstOf ys q (f .rooted) (under-most _ _ ys (omega arith) w)))))))
 
   -- an entry
   pub goes-rule : (id : ℕ) (e : Entry) (pol : Polarity) (st : State) → id < n → Under n (kids e) → OrderlySet (asSet e) → Firm n I st → Goes n t I Below (rule p t v id e pol) st
@@ -457,7 +460,7 @@ module _ (p : Pass) (t : Reader) (b : Tabled p t) (I : Held) (stays : Stays I) (
 -- a visit: what it finds, or what it works out
 module _ (p : Pass) (t : Reader) (I : Held) (stays : Stays I) (id : ℕ) (pol : Polarity) (w : Run ℕ)
     (k : (s : State) → Firm (p .count) I s → cell (s .keys) (slot id pol) ≡ 0 → Goes (p .count) t I Below w s) where
-  pub goes-look : (key : ℕ) (st : State) → cell (st .keys) (slot id pol) ≡ key → Firm (p .count) I st → Goes (p .count) t I Below (look p id w key) st
+  goes-look : (key : ℕ) (st : State) → cell (st .keys) (slot id pol) ≡ key → Firm (p .count) I st → Goes (p .count) t I Below (look p id w key) st
   goes-look zero st e f = k st f e
   goes-look (suc zero) st e f = goes-variable (p .count) t I stays p id st f
   goes-look (suc (suc x)) st e f = let h = f .steady .stored (slot id pol) in goes-give (p .count) t I stays Below x st f (omega arith)
@@ -471,14 +474,14 @@ module _ (p : Pass) (t : Reader) (I : Held) (stays : Stays I) (id : ℕ) (pol : 
       (goes-if (p .count) t I stays Below (exceeds p (tick (st .ops))) _ _ (ticked p st) (goes-variable (p .count) t I stays p id (ticked p st) (g .firm))
       (goes-look (cell (st .keys) (slot id pol)) (ticked p st) refl (g .firm)))
 
-  pub goes-entered : (st : State) → Firm (p .count) I st → Goes (p .count) t I Below (entered p id pol w) st
+  goes-entered : (st : State) → Firm (p .count) I st → Goes (p .count) t I Below (entered p id pol w) st
   unfolding entered
   goes-entered st f = entered-turn (st .bailed) st refl f
 
 -- every visitor of a table goes, if the work of each free key does
 pub visit-goes : (p : Pass) (t : Reader) (I : Held) (stays : Stays I) → Tabled p t
     → ((f : ℕ) → Goer p t I (visit f p t) → (id : ℕ) (pol : Polarity) (st : State) → id < p .count → Firm (p .count) I st → cell (st .keys) (slot id pol) ≡ 0
-      → Goes (p .count) t I Below (work p t (visit f p t) id pol) st)
+    → Goes (p .count) t I Below (work p t (visit f p t) id pol) st)
     → (f : ℕ) → Goer p t I (visit f p t)
 unfolding visit
 visit-goes p t I stays b w zero id pol st h f = goes-entered p t I stays id pol (refuse 6) (λ s f z a st′ e. refused-not e) st f
@@ -508,28 +511,16 @@ mover-goes p t v m id pol st h f x st′ e =
 pub visit-moves : (p : Pass) (t : Reader) → Tabled p t → (f : ℕ) → Mover p t (visit f p t)
 visit-moves p t b f id pol st x st′ h s r e =
     let w = visit-goes p t Any any-stays b
-        (λ c v id pol st h f e. goes-work p t b Any any-stays (visit c p t) v id pol st h (λ ns ks i. tt) (λ ns ks x l i. tt) f) f id pol st h
-        (firm-any s r) x st′ e in
+    (λ c v id pol st h f e. goes-work p t b Any any-stays (visit c p t) v id pol st h (λ ns ks i. tt) (λ ns ks x l i. tt) f) f id pol st h
+    (firm-any s r) x st′ e in
     (w .moved, w .fact, w .firm .rooted)
 
-pub each-moves : (p : Pass) (t : Reader) → Tabled p t → (v : Visit) → Mover p t v → (pol : Polarity) (bs : List ℕ) (st : State) (xs : List ℕ) (st′ : State)
-    → Under (p .count) bs → Steady (p .count) st → Rooted (st .nodes) → each (λ (b : ℕ). v b pol) bs st ≡ ok xs st′
-    → Moved (p .count) t st st′ × (length xs ≡ length bs) × Under (length (st′ .nodes)) xs × Rooted (st′ .nodes)
-each-moves p t b v m pol bs st xs st′ u s r e =
-    let w = goes-each p t b Any any-stays v (mover-goes p t v m) pol bs st u (firm-any s r) xs st′ e in
-    (w .moved, w .fact .many, w .fact .below, w .firm .rooted)
-
 -- a pass begins so
-fresh-keys : (m k : ℕ) → cell (replicate m 0) k < 2
-fresh-keys zero k = omega arith
-fresh-keys (suc m) zero = omega arith
-fresh-keys (suc m) (suc k) = fresh-keys m k
-
 pub steady-fresh : (n : ℕ) → Steady n (fresh n)
 steady-fresh n =
     record {
       sound = record { ordered = record { is = λ i lt. absurd (not-suc-le-zero lt) }; counted = refl };
       keys = length-replicate (2 * n) 0;
       bits = length-replicate n 0;
-      stored = λ k. fresh-keys (2 * n) k;
+      stored = λ k. omega (arith, cell-zero (2 * n) k);
     }

@@ -9,6 +9,7 @@ use lib.ListN.{length, getD}
 use lib.Dec.{eqb, ltb}
 use borrow.Author.Tests.{ltb-false, lt-ltb, le-ltb, eqb-true, eq-eqb}
 use Rattle.cells.specs.Part.{if, eqList}
+use Rattle.cells.proofs.Choices.{by-test, true-false}
 use Rattle.rules.specs.Plain.{ascii, joined, _>>=_}
 use Rattle.rules.specs.Ceilings.{mostText}
 use Rattle.rules.specs.Text.{tab, lineFeed, cut, pieces, parted, greatest, digit, digits, number, decimalBy, decimal, aNumber, fieldOf, byShape, tagged}
@@ -16,8 +17,8 @@ use Rattle.rules.specs.Text.{noKind, byWord, rowOf, fieldText, rowTexts}
 use Rattle.rules.specs.Table.{Root, Result, accepted, refused, then}
 use Rattle.rules.specs.Listing.{rootHead, refusedHead, headKinds, answersText, nodeInForm, Taking, nextLine, takeLine, takeNode, takeNodes}
 use Rattle.rules.specs.Listing.{nodesAfter, takeAfter, takeRoot, blank, atEnd, takeRoots, isAnswers, oldListing}
-use Rattle.laws.proofs.Storing.{true-false, eqList-true}
-use Rattle.laws.proofs.Admitting.{by-test, both-parts}
+use Rattle.laws.proofs.Storing.{eqList-true}
+use Rattle.laws.proofs.Admitting.{both-parts}
 
 -- a refusal is not accepted, nothing is not something
 refused-accepted : {A B : Type 0} {k l : ℕ} {a : A} → _≡_ {A = Result A} (refused k l) (accepted a) → B
@@ -71,7 +72,7 @@ module _ (sep : ℕ) where
   parted-pieces l = parted-cut [] l
 
 -- no other text than a number's decimal is read as the number. How many steps there are for its digits makes no difference
-decimal-steps : (f g n : ℕ) → n ≤ f → n ≤ g → decimalBy f n ≡ decimalBy g n
+pub decimal-steps : (f g n : ℕ) → n ≤ f → n ≤ g → decimalBy f n ≡ decimalBy g n
 decimal-steps zero zero n h k = refl
 decimal-steps zero (suc g) n h k = rw (lt-ltb n 10 (omega arith))
 decimal-steps (suc f) zero n h k = rw (lt-ltb n 10 (omega arith))
@@ -237,6 +238,7 @@ answers-line n l e =
     other : (k : ℕ) (m : Option (List ℕ)) → isAnswers n (tagged (suc k) m) ≡ true → {A : Type 0} → A
     other k none e = true-false (sym e)
     other k (some xs) e = let z = eqb-true (suc k) 0 (both-parts (eqb (suc k) 0) _ e .0) in absurd (omega arith)
+
     by-words : (ps : List (List ℕ)) → isAnswers n (byWord headKinds ps) ≡ true → ps ≡ ascii "answers" ∷ decimal n ∷ []
     by-words [] e = true-false (sym e)
     by-words (w ∷ fs) e =

@@ -158,7 +158,7 @@ restItems t = dynItems (t .dyn) ++ (num (t .isOpen) ∷ listItems num (t .option
 pub set-items : (t : Attr) → attrItems t ≡ fieldItems (t .fields) ++ restItems t
 set-items t = append-assoc (fieldItems (t .fields)) (dynItems (t .dyn)) (num (t .isOpen) ∷ listItems num (t .optional))
 
-pub field-items : (fs : List Field) → length (fieldItems fs) ≡ suc (2 * length fs)
+field-items : (fs : List Field) → length (fieldItems fs) ≡ suc (2 * length fs)
 field-items [] = refl
 field-items (f ∷ fs) = let e = field-items fs in omega arith
 
@@ -191,7 +191,7 @@ dyn-items : (d : Option ℕ) → length (dynItems d) ≡ 1
 dyn-items none = refl
 dyn-items (some d) = refl
 
-pub rest-items : (t : Attr) → length (restItems t) ≡ 3 + length (t .optional)
+rest-items : (t : Attr) → length (restItems t) ≡ 3 + length (t .optional)
 rest-items t =
     omega (arith, length-append (dynItems (t .dyn)) (num (t .isOpen) ∷ listItems num (t .optional)), dyn-items (t .dyn), list-items num (t .optional))
 

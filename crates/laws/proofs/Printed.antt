@@ -11,23 +11,19 @@ use lib.Seq.{take-at, drop-at}
 use lib.Dec.{ltb}
 use borrow.Author.Tests.{ltb-true, ltb-false, le-ltb, le-leb, eq-eqb, ne-eqb}
 use Rattle.cells.specs.Part.{eqList, cell}
+use Rattle.cells.proofs.Choices.{by-test}
 use Rattle.rules.specs.Plain.{_>>=_}
 use Rattle.rules.specs.Text.{comma, colon, dash, cut, pieces, parted, greatest, digit, digits, number, decimalBy, decimal, elements, counted, listOf, single, keyed, upTo, dynOf, aNumber, aCode, aFlag, aList, aDyn, someFields, aSign, fieldOf, byShape, wordsOf, listText, keyedText, fieldText, shapeTexts}
 use Rattle.rules.specs.Table.{Field}
 use Rattle.rules.specs.Types.{fieldWords, dynWords}
-use Rattle.laws.proofs.Admitting.{by-test}
 use Rattle.laws.proofs.Rooting.{All, all-join}
 use Rattle.laws.proofs.Rows.{field-words-length}
+use Rattle.laws.proofs.Admitting.{Every}
 use mathlib.Core.Option.{Option, none, some}
 
 pub all-more : (P Q : ℕ → Type 0) → ((x : ℕ) → P x → Q x) → (xs : List ℕ) → All P xs → All Q xs
 all-more P Q f [] h = tt
 all-more P Q f (x ∷ xs) h = (f x (h .0), all-more P Q f xs (h .1))
-
--- of each of these texts
-abbrev pub Every : (List ℕ → Type 0) → List (List ℕ) → Type 0
-Every P [] = Unit {0}
-Every P (p ∷ ps) = P p × Every P ps
 
 pub every-more : (P Q : List ℕ → Type 0) → ((l : List ℕ) → P l → Q l) → (ps : List (List ℕ)) → Every P ps → Every Q ps
 every-more P Q f [] h = tt
@@ -83,7 +79,7 @@ decimal-digits-by (suc f) n h =
     (λ e. let l = ltb-false n 10 e in
     all-join Digit (decimalBy f (n / 10)) ((48 + n % 10) ∷ []) (decimal-digits-by f (n / 10) (omega arith)) ((omega arith, omega arith), tt))
 
-pub decimal-digits : (n : ℕ) → All Digit (decimal n)
+decimal-digits : (n : ℕ) → All Digit (decimal n)
 unfolding decimal
 decimal-digits n = decimal-digits-by n n (omega arith)
 
@@ -109,7 +105,7 @@ decimal-begins-by (suc f) n k h l m =
     (λ e. let g = ltb-false n 10 e in
     begins-append (48 + k) (decimalBy f (n / 10)) ((48 + n % 10) ∷ []) (decimal-begins-by f (n / 10) k (omega arith) l (omega arith)))
 
-pub decimal-begins : (n : ℕ) → Begins 48 (decimal n)
+decimal-begins : (n : ℕ) → Begins 48 (decimal n)
 unfolding decimal
 decimal-begins n = decimal-begins-by n n 0 (omega arith) (omega arith) (omega arith)
 
@@ -181,7 +177,7 @@ pub record Element (one : List ℕ → Option (List ℕ)) (p x : List ℕ) : Typ
   pub begins : Begins 48 p
   pub over : Over 45 p
 
-pub single-decimal : (x : ℕ) → x ≤ greatest → Element single (decimal x) (x ∷ [])
+single-decimal : (x : ℕ) → x ≤ greatest → Element single (decimal x) (x ∷ [])
 single-decimal x h =
     record { read = ap (λ (m : Option ℕ). m >>= (λ (n : ℕ). some (n ∷ []))) (number-decimal x h); begins = decimal-begins x; over = digits-over 45 x (omega arith) }
 

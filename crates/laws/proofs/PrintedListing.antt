@@ -1,6 +1,6 @@
 -- The printed listing of a table that is accepted is in form, and falls into its roots' lines. Assumes nothing.
 use mathlib.Core.Path.{_≡_, refl, sym, ap, _∙_, subst}
-use mathlib.Core.Bool.{Bool, true, false}
+use mathlib.Core.Bool.{Bool, true}
 use Prim.Native.Nat.{ℕ, suc, _+_, _≤_, _<_}
 use native.Mathlib.Omega.{arith}
 use native.Mathlib.Nat.{not-suc-le-zero}
@@ -16,15 +16,17 @@ use Rattle.rules.specs.Table.{Root, Field, Attr, fieldTypes, fieldKeys, dynIds,
 use Rattle.rules.specs.Types.{Node, TyVar, Primitive, ListOf, Lambda, AttrSet, Union, Intersection, Named, Neg, Bottom, Top, nodeKinds, fieldWords, dynWords, encode, members, asAttr, children, nodeAt, polarityOf}
 use Rattle.rules.specs.Canonicalizer.{Answer, shown, refusedWith, firstPass, readerOf, answerOf}
 use Rattle.rules.specs.Listing.{headKinds, headText, walk, renumberField, renumberDyn, renumber, nodeText, nodeTexts, answerText, rootText, rootTextOf, answersText, listingText, nodeOf, nodeFits, rowFits, isNumber, nodeLineFits, nodeInForm, Taking, nextLine, takeLine, takeNode, takeNodes, within, forRoot, nodesAfter, takeAfter, takeRoot, blank, atEnd, takeRoots, isAnswers, oldListing}
-use Rattle.laws.proofs.Told.{by-branch}
-use Rattle.laws.proofs.Admitting.{both-parts}
+use Rattle.laws.proofs.Admitting.{both-parts, Every}
 use Rattle.laws.proofs.Rows.{node-read}
-use Rattle.laws.proofs.Rooting.{All, under-join}
-use Rattle.laws.proofs.Printed.{all-more, Every, every-more, Over, Free, over-free, pieces-at, pieces-parted, free-parted, number-decimal, digits-over, Numbers, Says, says-number, says-code, says-flag, says-list, says-fields, says-dyn, says-sign, Shaped, end, then as next, shaped-reads}
+use Rattle.laws.proofs.Rooting.{All}
+use Rattle.laws.proofs.Printed.{all-more, every-more, Over, Free, over-free, pieces-at, pieces-parted, free-parted, number-decimal, digits-over, Numbers, Says, says-number, says-code, says-flag, says-list, says-fields, says-dyn, says-sign, Shaped, end, then as next, shaped-reads}
 use Rattle.laws.proofs.Walking.{Steps, walk-steps, walk-some, walk-few, position-within}
 use Rattle.laws.proofs.Forming.{FormedSet, Formed, Fine, RunNumber, Answers, shows, stops, answer-formed}
 use Rattle.laws.proofs.ReadRows.{few-names, accepted-formed, KnownRoots, roots-known}
+use Rattle.laws.proofs.Filtering.{under-both}
+use Rattle.laws.proofs.Containing.{flag-few}
 use Rattle.cells.specs.Placed.{Under}
+use Rattle.cells.proofs.Choices.{by-branch}
 use mathlib.Core.Option.{Option, none, some}
 
 -- a row whose texts are read as it, by bytes that part no fields and no lines
@@ -136,7 +138,7 @@ keys-fit names (Lambda a b) f = refl
 keys-fit names (AttrSet a) f =
     both-true (keysAscend (some a)) (λ _. allBelow names (keysIn (some a)))
     (both-true (ascending (fieldKeys (a .fields))) (λ _. ascending (a .optional)) (f .ascend) (f .optionals))
-    (under-all names (fieldKeys (a .fields) ++ a .optional) (under-join names (fieldKeys (a .fields)) (a .optional) (f .named) (f .others)))
+    (under-all names (fieldKeys (a .fields) ++ a .optional) (under-both names (fieldKeys (a .fields)) (a .optional) (f .named) (f .others)))
 keys-fit names (Union ms) f = refl
 keys-fit names (Intersection ms) f = refl
 keys-fit names (Named n a) f = refl
@@ -299,10 +301,6 @@ module _ (names : ℕ) (h : names ≤ mostNames) where
               ∙ ap (λ (got : List ℕ). accepted (record { text = got; line = r .line; rest = pieces lineFeed rest })) (line-last (c .text) l more);
         }
 
-  flag-few : (b : Bool) → flag b ≤ 1
-  flag-few true = omega arith
-  flag-few false = omega arith
-
   within-true : (a b x : ℕ) → a ≤ x → x ≤ b → within a b x ≡ true
   within-true a b x l m = both-true (leb a x) (λ _. leb x b) (le-leb a x l) (le-leb x b m)
 
@@ -366,8 +364,8 @@ module _ (names : ℕ) (h : names ≤ mostNames) where
         let more = nodeTexts ns w 0 w in
         let d = takeLine c l (pieces lineFeed (more ++ rest)) in
         let t = take-head row (length w) (more ++ rest) c (shown-row passes ops sorted bailed (length w) (s .twice) (s .counted) few)
-            (shown-after passes ops sorted bailed (length w) (s .once) (s .twice) (walk-some ns (s .rooted) x (s .below)) few)
-            (e ∙ ap (pieces lineFeed) (append-assoc (headText row) more rest)) in
+        (shown-after passes ops sorted bailed (length w) (s .once) (s .twice) (walk-some ns (s .rooted) x (s .below)) few)
+        (e ∙ ap (pieces lineFeed) (append-assoc (headText row) more rest)) in
         let r = take-nodes ns (s .fine) w [] w 0 rest d refl refl (omega arith) (walk-steps ns (s .rooted) x (s .below)) refl in
         record {
           line = r .line;
@@ -427,7 +425,7 @@ module _ (text : List ℕ) (t : Table) (e : tableOf text ≡ accepted t) where
       let r : RowReads headKinds row = row-reads headKinds 0 (n ∷ []) (λ fs. refl) refl (last (says-number n few)) in
       let c : Taking = record { text = []; line = 2; rest = pieces lineFeed rest } in
       let f : List ℕ → List (List ℕ) → Result (List (List ℕ)) =
-          λ l ls. if (isAnswers n (rowOf headKinds l)) (λ _. takeRoots names (t .roots) (record { text = []; line = 2; rest = ls })) (λ _. refused 11 1) in
+      λ l ls. if (isAnswers n (rowOf headKinds l)) (λ _. takeRoots names (t .roots) (record { text = []; line = 2; rest = ls })) (λ _. refused 11 1) in
       rw (le-ltb mostText (length (answersText n ++ rest)) fits)
       (ap (λ (whole : List ℕ). nextLine 1 (pieces lineFeed whole) f) (append-assoc l (lineFeed ∷ []) rest)
       ∙ next-line 1 l rest f (line-free (rowTexts headKinds row) (r .over))

@@ -12,6 +12,7 @@ use lib.ListN.{length, getD, drop, length-append, length-map}
 use lib.Dec.{ltb}
 use borrow.Author.Tests.{ltb-false, le-ltb}
 use Rattle.cells.specs.Part.{if, cell}
+use Rattle.cells.proofs.Choices.{true-false}
 use Rattle.rules.specs.Plain.{ascii, joined}
 use Rattle.rules.specs.Ceilings.{mostText}
 use Rattle.rules.specs.Text.{tab, lineFeed, pieces, parted, lineText}
@@ -19,12 +20,12 @@ use Rattle.rules.specs.Table.{Root, Table, Result, accepted, then, tableOf}
 use Rattle.rules.specs.Listing.{rootTextOf, answersText, listingText, oldListing}
 use Rattle.rules.specs.Calls.{fits, canon, comparable, redone, redoneWord, rechecked, recheckText, recheck}
 use Rattle.rules.specs.Chains.{MeetsDifference}
-use Rattle.laws.proofs.Storing.{true-false}
 use Rattle.laws.proofs.Chains.{same-differs, redone-flag}
 use Rattle.laws.proofs.Local.{alike, text-local}
-use Rattle.laws.proofs.Printed.{Every, Over, pieces-at}
+use Rattle.laws.proofs.Printed.{Over, pieces-at}
 use Rattle.laws.proofs.PrintedListing.{over-by, line-free, line-pieces, printed-listing}
 use Rattle.laws.proofs.OldListing.{comes, passed, not-stopped, parted-pieces, in-form}
+use Rattle.laws.proofs.Admitting.{Every}
 
 -- a text's first line, its words, and what stands behind it
 abbrev pub firstLine : List ℕ → List ℕ
@@ -73,7 +74,10 @@ recheck-accepted o n l room text e =
     let d = comes (oldListing (length (new .names)) (new .roots) l) _ text (c .1) in
     let f = fits-accepted room (recheckText old new (d .value)) text (d .next) in
     record {
-      old = old; new = new; old-table = a .is; new-table = b .is;
+      old = old;
+      new = new;
+      old-table = a .is;
+      new-table = b .is;
       rechecked = record { texts = d .value; alike = c .0; in-form = d .is; is = f .0; fits = f .1 };
     }
 
@@ -186,7 +190,7 @@ redone-exactly o n l room text old new f g e =
     let first = recheck-first old new (r .texts) text (r .is) in
     let behind = recheck-behind old new (r .texts) text (r .is) in
     let word : (i : ℕ) → i < length (new .roots) → firstWord text i ≡ told old new (rootAt new i) =
-        λ i h. ap (λ (l : List ℕ). getD (pieces tab l) i []) first ∙ word-told old new (new .roots) i (record { id = 0; sign = 0 }) h in
+    λ i h. ap (λ (l : List ℕ). getD (pieces tab l) i []) first ∙ word-told old new (new .roots) i (record { id = 0; sign = 0 }) h in
     record {
       ended = r .is ∙ recheck-parts old new (r .texts) ∙ sym (ap₂ {C = List ℕ} (λ (x y : List ℕ). x ++ (lineFeed ∷ y)) first behind);
       empty = λ h. first ∙ no-words old new (new .roots) h;
@@ -230,9 +234,9 @@ kept-copied o n l room text old new f g e =
     let r = known-tables o n l room text old new f g e in
     let form = in-form (length (new .names)) (new .roots) l (r .texts) (r .in-form) in
     let at : (i : ℕ) (b : Bool) → i < length (new .roots) → redone old new (rootAt new i) ≡ b → getD (rechecked old new (new .roots) (r .texts)) i []
-        ≡ if b (λ _. rootTextOf new (rootAt new i)) (λ _. getD (r .texts) i []) =
-        λ i b h q. lines-at old new (new .roots) (r .texts) i (record { id = 0; sign = 0 }) h (form .many)
-        ∙ ap (λ (c : Bool). if c (λ _. rootTextOf new (rootAt new i)) (λ _. getD (r .texts) i [])) q in
+    ≡ if b (λ _. rootTextOf new (rootAt new i)) (λ _. getD (r .texts) i []) =
+    λ i b h q. lines-at old new (new .roots) (r .texts) i (record { id = 0; sign = 0 }) h (form .many)
+    ∙ ap (λ (c : Bool). if c (λ _. rootTextOf new (rootAt new i)) (λ _. getD (r .texts) i [])) q in
     record {
       before = r .texts;
       after = rechecked old new (new .roots) (r .texts);

@@ -14,11 +14,12 @@ use Rattle.rules.specs.Table.{Field, Attr, fieldTypes, dynIds, attrKids}
 use Rattle.rules.specs.Order.{isGreater, order, insert, sortInto, sort}
 use Rattle.rules.specs.Types.{Node, TyVar, Primitive, ListOf, Lambda, AttrSet, Union, Intersection, Named, Neg, Bottom, Top, members, asAttr, children, State, ok, Run, _>>=_, give, refuse, nodeAt, is, store, limit, tyVarKind, attrSetKind, unionKind, bottomKind}
 use Rattle.rules.specs.Members.{membersAt, negatedInners, without, addAll, flattenOne, flattenInto, flatten-composite, remove-tautological-pairs, left, takenUp, absorb-subsumed-union-members, isConcrete, remove-redundant-negations, spared, takesSome, meetTypes, mergeField, mergeFields, mergeDyn, mergeAttrs, attrOf, attrsOf, merged, merge-attrset-intersection, sole, simplifyOne, simplifyEach, simplify-union-neg-intersection, markSorted, remainders, factored, factorUnions, factor-shared-from-intersection, each, negateNode, negateBy, negate-output-ty}
-use Rattle.rules.specs.Canonicalizer.{Pass, variable, concreteOf, should-drop-filler, flattened, composite, settle, topIfEmptied, preserving, firstMember, interNormalized, interRest, unionNormalized}
+use Rattle.rules.specs.Canonicalizer.{Pass, variable, flattened, composite, settle, topIfEmptied, preserving, firstMember, interNormalized, interRest, unionNormalized}
 use Rattle.rules.specs.declared.Polarity.{Polarity}
 use Rattle.rules.specs.declared.Polarity.the-variants.{Positive, Negative}
 use Rattle.laws.proofs.Storing.{Rooted, store-keeps}
-use Rattle.laws.proofs.Keeping.{parted, gave, refused-not, under-more}
+use Rattle.laws.proofs.Keeping.{parted, gave, refused-not}
+use Rattle.laws.proofs.Filtering.{under-front, under-back, under-both, under-added, filter-under, under-most, under-new}
 use Rattle.cells.specs.Placed.{Under}
 use mathlib.Core.Option.{Option, none, some}
 
@@ -54,37 +55,6 @@ module _ (P : ℕ → Type 0) where
 
 -- lists of numbers below k
 module _ (k : ℕ) where
-  abbrev Low : ℕ → Type 0
-  Low x = x < k
-
-  all-low : (xs : List ℕ) → Under k xs → All Low xs
-  all-low [] u = tt
-  all-low (x ∷ xs) u = (u .0, all-low xs (u .1))
-
-  low-all : (xs : List ℕ) → All Low xs → Under k xs
-  low-all [] u = tt
-  low-all (x ∷ xs) u = (u .0, low-all xs (u .1))
-
-  pub under-join : (xs ys : List ℕ) → Under k xs → Under k ys → Under k (xs ++ ys)
-  under-join xs ys u v = low-all (xs ++ ys) (all-join Low xs ys (all-low xs u) (all-low ys v))
-
-  pub under-front : (xs ys : List ℕ) → Under k (xs ++ ys) → Under k xs
-  under-front [] ys u = tt
-  under-front (x ∷ xs) ys u = (u .0, under-front xs ys (u .1))
-
-  pub under-back : (xs ys : List ℕ) → Under k (xs ++ ys) → Under k ys
-  under-back [] ys u = u
-  under-back (x ∷ xs) ys u = under-back xs ys (u .1)
-
-  pub under-sieved : (p : ℕ → Bool) (xs : List ℕ) → Under k xs → Under k (filter p xs)
-  under-sieved p xs u = low-all (filter p xs) (all-sieve Low p xs (all-low xs u))
-
-  pub under-added : (got xs : List ℕ) → Under k got → Under k xs → Under k (addAll got xs)
-  under-added got xs u v = low-all (addAll got xs) (all-added Low got xs (all-low got u) (all-low xs v))
-
-  under-new : (got : List ℕ) (x : ℕ) → Under k got → x < k → Under k (addNew got x)
-  under-new got x u h = low-all (addNew got x) (all-new Low got x (all-low got u) h)
-
   -- those whose places are not gone
   left-turn : (b : Bool) (m : ℕ) (rest : List ℕ) → m < k → Under k rest → Under k (if b (λ _. rest) (λ _. m ∷ rest))
   left-turn true m rest h u = u
@@ -100,11 +70,11 @@ module _ (k : ℕ) where
 
   pub under-cancelled : (ns : List Node) (ms : List ℕ) → Under k ms → Under k (remove-tautological-pairs ns ms)
   unfolding remove-tautological-pairs
-  under-cancelled ns ms u = under-sieved _ ms u
+  under-cancelled ns ms u = filter-under _ k ms u
 
   needed-turn : (b : Bool) (p : ℕ → Bool) (ms : List ℕ) → Under k ms → Under k (if b (λ _. ms) (λ _. filter p ms))
   needed-turn true p ms u = u
-  needed-turn false p ms u = under-sieved p ms u
+  needed-turn false p ms u = filter-under p k ms u
 
   pub under-needed : (functor : ℕ) (ns : List Node) (ms : List ℕ) → Under k ms → Under k (remove-redundant-negations functor ns ms)
   unfolding remove-redundant-negations
@@ -123,7 +93,7 @@ module _ (k : ℕ) where
   under-sorts ns got [] u v = u
   under-sorts ns got (x ∷ xs) u v = under-sorts ns (insert ns x got) xs (under-insert ns x got (v .0) u) (v .1)
 
-  pub under-sort : (ns : List Node) (xs : List ℕ) → Under k xs → Under k (sort ns xs)
+  under-sort : (ns : List Node) (xs : List ℕ) → Under k xs → Under k (sort ns xs)
   unfolding sort
   under-sort ns xs u = under-sorts ns [] xs tt u
 
@@ -142,10 +112,10 @@ module _ (k : ℕ) where
 
 -- children of any node are nodes
 children-turn : (ns : List Node) (m : ℕ) (b : Bool) → ltb m (length ns) ≡ b → Rooted ns → Under (length ns) (children (nodeAt ns m))
-children-turn ns m true e r = let lt = ltb-true m (length ns) e in under-more (children (nodeAt ns m)) (omega arith) (r .is m lt)
+children-turn ns m true e r = let lt = ltb-true m (length ns) e in under-most _ _ (children (nodeAt ns m)) (omega arith) (r .is m lt)
 children-turn ns m false e r = subst (λ (n : Node). Under (length ns) (children n)) (sym (List·getD-eq-default ns Bottom (ltb-false m (length ns) e))) tt
 
-pub children-below : (ns : List Node) (m : ℕ) → Rooted ns → Under (length ns) (children (nodeAt ns m))
+children-below : (ns : List Node) (m : ℕ) → Rooted ns → Under (length ns) (children (nodeAt ns m))
 children-below ns m r = children-turn ns m (ltb m (length ns)) refl r
 
 pub members-below : (ns : List Node) (m : ℕ) → Rooted ns → Under (length ns) (membersAt ns m)
@@ -166,7 +136,7 @@ module _ (k : ℕ) (ns : List Node) (r : Rooted ns) where
   flatten-turn true ms u = u
   flatten-turn false ms u = flat-into [] ms tt u
 
-  pub flatten-below : (ms : List ℕ) → Under (length ns) ms → Under (length ns) (flatten-composite k ns ms)
+  flatten-below : (ms : List ℕ) → Under (length ns) ms → Under (length ns) (flatten-composite k ns ms)
   unfolding flatten-composite
   flatten-below ms u = flatten-turn (both (not (any (is ns k) ms)) (λ _. ltb 64 (length ms))) ms u
 
@@ -186,10 +156,10 @@ Below k x = x < k
 abbrev pub AllBelow : ℕ → List ℕ → Type 0
 AllBelow k xs = Under k xs
 
-pub roots-give : {A : Type 0} (Q : ℕ → A → Type 0) (a : A) (st : State) → Rooted (st .nodes) → Q (length (st .nodes)) a → Roots Q (give a) st
+roots-give : {A : Type 0} (Q : ℕ → A → Type 0) (a : A) (st : State) → Rooted (st .nodes) → Q (length (st .nodes)) a → Roots Q (give a) st
 roots-give Q a st r q b st′ e = gave (Rooting Q st) e (record { grows = omega arith; rooted = r; fact = q })
 
-pub roots-bind : {A B : Type 0} (P : ℕ → A → Type 0) (Q : ℕ → B → Type 0) (m : Run A) (f : A → Run B) (st : State) → Roots P m st
+roots-bind : {A B : Type 0} (P : ℕ → A → Type 0) (Q : ℕ → B → Type 0) (m : Run A) (f : A → Run B) (st : State) → Roots P m st
     → ((a : A) (s : State) → length (st .nodes) ≤ length (s .nodes) → Rooted (s .nodes) → P (length (s .nodes)) a → Roots Q (f a) s) → Roots Q (m >>= f) st
 roots-bind P Q m f st k l b st′ e =
     let c = parted m f st b st′ e in
@@ -197,7 +167,7 @@ roots-bind P Q m f st k l b st′ e =
     let h = l (c .value) (c .between) (g .grows) (g .rooted) (g .fact) b st′ (c .second) in
     record { grows = omega (arith, g .grows, h .grows); rooted = h .rooted; fact = h .fact }
 
-pub roots-if : {A : Type 0} (Q : ℕ → A → Type 0) (b : Bool) (x y : Unit {0} → Run A) (st : State) → Roots Q (x tt) st → Roots Q (y tt) st → Roots Q (if b x y) st
+roots-if : {A : Type 0} (Q : ℕ → A → Type 0) (b : Bool) (x y : Unit {0} → Run A) (st : State) → Roots Q (x tt) st → Roots Q (y tt) st → Roots Q (if b x y) st
 roots-if Q true x y st k l = k
 roots-if Q false x y st k l = l
 
@@ -210,7 +180,7 @@ limit-turn : (b : Bool) (xs : List ℕ) (st : State) → Rooted (st .nodes) → 
 limit-turn true xs st r u ys st′ e = refused-not e
 limit-turn false xs st r u ys st′ e = roots-give AllBelow xs st r u ys st′ e
 
-pub roots-limit : (xs : List ℕ) (st : State) → Rooted (st .nodes) → Under (length (st .nodes)) xs → Roots AllBelow (limit xs) st
+roots-limit : (xs : List ℕ) (st : State) → Rooted (st .nodes) → Under (length (st .nodes)) xs → Roots AllBelow (limit xs) st
 unfolding limit
 roots-limit xs st r u = limit-turn (ltb mostMembers (length xs)) xs st r u
 
@@ -218,32 +188,32 @@ roots-limit xs st r u = limit-turn (ltb mostMembers (length xs)) xs st r u
 abbrev pub Wraps : (List ℕ → Node) → Type 0
 Wraps wrap = (k : ℕ) (xs : List ℕ) → Under k xs → Under k (children (wrap xs))
 
-pub roots-sole : (wrap : List ℕ → Node) → Wraps wrap → (xs : List ℕ) (st : State) → Rooted (st .nodes) → Under (length (st .nodes)) xs → Roots AllBelow (sole wrap xs) st
+roots-sole : (wrap : List ℕ → Node) → Wraps wrap → (xs : List ℕ) (st : State) → Rooted (st .nodes) → Under (length (st .nodes)) xs → Roots AllBelow (sole wrap xs) st
 roots-sole wrap w [] st r u = roots-give AllBelow [] st r u
 roots-sole wrap w (x ∷ []) st r u = roots-give AllBelow (x ∷ []) st r u
 roots-sole wrap w (x ∷ y ∷ xs) st r u =
     roots-bind Below AllBelow (store (wrap (x ∷ y ∷ xs))) _ st (roots-store (wrap (x ∷ y ∷ xs)) st r (w (length (st .nodes)) (x ∷ y ∷ xs) u))
     (λ z s g r h. roots-give AllBelow (z ∷ []) s r (h, tt))
 
-pub roots-union : (xs : List ℕ) (st : State) → Rooted (st .nodes) → Under (length (st .nodes)) xs → Roots AllBelow (sole Union xs) st
+roots-union : (xs : List ℕ) (st : State) → Rooted (st .nodes) → Under (length (st .nodes)) xs → Roots AllBelow (sole Union xs) st
 roots-union xs st r u = roots-sole Union (λ k ys v. v) xs st r u
 
-pub roots-intersection : (xs : List ℕ) (st : State) → Rooted (st .nodes) → Under (length (st .nodes)) xs → Roots AllBelow (sole Intersection xs) st
+roots-intersection : (xs : List ℕ) (st : State) → Rooted (st .nodes) → Under (length (st .nodes)) xs → Roots AllBelow (sole Intersection xs) st
 roots-intersection xs st r u = roots-sole Intersection (λ k ys v. v) xs st r u
 
 -- simplifying
 roots-simplify-one : (negs : List ℕ) (m : ℕ) (st : State) → Rooted (st .nodes) → m < length (st .nodes) → Roots AllBelow (simplifyOne negs m) st
 roots-simplify-one negs m st r h =
     roots-if AllBelow (is (st .nodes) unionKind m) _ _ st
-    (roots-union (spared (st .nodes) negs m) st r (under-sieved (length (st .nodes)) _ (membersAt (st .nodes) m) (members-below (st .nodes) m r)))
+    (roots-union (spared (st .nodes) negs m) st r (filter-under _ (length (st .nodes)) (membersAt (st .nodes) m) (members-below (st .nodes) m r)))
     (roots-give AllBelow (m ∷ []) st r (h, tt))
 
 roots-simplify-each : (negs ms : List ℕ) (st : State) → Rooted (st .nodes) → Under (length (st .nodes)) ms → Roots AllBelow (simplifyEach negs ms) st
 roots-simplify-each negs [] st r u = roots-give AllBelow [] st r tt
 roots-simplify-each negs (m ∷ ms) st r u =
     roots-bind AllBelow AllBelow (simplifyOne negs m) _ st (roots-simplify-one negs m st r (u .0))
-    (λ x s g r v. roots-bind AllBelow AllBelow (simplifyEach negs ms) _ s (roots-simplify-each negs ms s r (under-more ms g (u .1)))
-    (λ xs z h r w. roots-give AllBelow (x ++ xs) z r (under-join (length (z .nodes)) x xs (under-more x h v) w)))
+    (λ x s g r v. roots-bind AllBelow AllBelow (simplifyEach negs ms) _ s (roots-simplify-each negs ms s r (under-most _ _ ms g (u .1)))
+    (λ xs z h r w. roots-give AllBelow (x ++ xs) z r (under-both (length (z .nodes)) x xs (under-most _ _ x h v) w)))
 
 pub roots-simplify : (functor : ℕ) (ms : List ℕ) (st : State) → Rooted (st .nodes) → Under (length (st .nodes)) ms → Roots AllBelow (simplify-union-neg-intersection functor ms) st
 unfolding simplify-union-neg-intersection
@@ -254,7 +224,7 @@ roots-simplify functor ms st r u =
     (roots-give AllBelow (remove-redundant-negations functor (st .nodes) ms) st r (under-needed (length (st .nodes)) functor (st .nodes) ms u))
     (roots-bind AllBelow AllBelow (simplifyEach negs ms) _ st (roots-simplify-each negs ms st r u)
     (λ xs s g r v. roots-if AllBelow (any (takesSome (st .nodes) negs) ms) _ _ s
-    (roots-give AllBelow _ s r (under-needed (length (s .nodes)) functor (s .nodes) (filter (λ (m : ℕ). not (is (s .nodes) bottomKind m)) xs) (under-sieved (length (s .nodes)) _ xs v)))
+    (roots-give AllBelow _ s r (under-needed (length (s .nodes)) functor (s .nodes) (filter (λ (m : ℕ). not (is (s .nodes) bottomKind m)) xs) (filter-under _ (length (s .nodes)) xs v)))
     (roots-give AllBelow xs s r v))))
 
 -- factoring
@@ -265,37 +235,37 @@ roots-remainders : (shared us : List ℕ) (st : State) → Rooted (st .nodes) �
 roots-remainders shared [] st r = roots-give AllBelow [] st r tt
 roots-remainders shared (u ∷ us) st r =
     roots-bind AllBelow AllBelow (sole Union (without shared (membersAt (st .nodes) u))) _ st
-    (roots-union (without shared (membersAt (st .nodes) u)) st r (under-sieved (length (st .nodes)) _ (membersAt (st .nodes) u) (members-below (st .nodes) u r)))
+    (roots-union (without shared (membersAt (st .nodes) u)) st r (filter-under _ (length (st .nodes)) (membersAt (st .nodes) u) (members-below (st .nodes) u r)))
     (λ x s g r v. roots-bind AllBelow AllBelow (remainders shared us) _ s (roots-remainders shared us s r)
-    (λ xs z h r w. roots-give AllBelow (x ++ xs) z r (under-join (length (z .nodes)) x xs (under-more x h v) w)))
+    (λ xs z h r w. roots-give AllBelow (x ++ xs) z r (under-both (length (z .nodes)) x xs (under-most _ _ x h v) w)))
 
 roots-factored : (others us shared : List ℕ) (st : State) → Rooted (st .nodes) → Under (length (st .nodes)) others → Under (length (st .nodes)) us
     → Under (length (st .nodes)) shared → Roots AllBelow (factored others us shared) st
-roots-factored others us [] st r o u d = roots-give AllBelow (others ++ us) st r (under-join (length (st .nodes)) others us o u)
+roots-factored others us [] st r o u d = roots-give AllBelow (others ++ us) st r (under-both (length (st .nodes)) others us o u)
 roots-factored others us (x ∷ xs) st r o u d =
     roots-bind AllBelow AllBelow (remainders (x ∷ xs) us) _ st (roots-remainders (x ∷ xs) us st r)
     (λ rests s g r v. roots-bind (λ k _. Unit {0}) AllBelow (markSorted (sort (s .nodes) (x ∷ xs))) _ s (roots-mark (sort (s .nodes) (x ∷ xs)) s r)
     (λ _ z h r _. roots-bind AllBelow AllBelow (sole Intersection (rests ++ others)) _ z
-    (roots-intersection (rests ++ others) z r (under-join (length (z .nodes)) rests others (under-more rests h v) (under-more others (omega arith) o)))
+    (roots-intersection (rests ++ others) z r (under-both (length (z .nodes)) rests others (under-most _ _ rests h v) (under-most _ _ others (omega arith) o)))
     (λ inner y i r w. roots-union (sort (s .nodes) (x ∷ xs) ++ inner) y r
-    (under-join (length (y .nodes)) (sort (s .nodes) (x ∷ xs)) inner
-    (under-sort (length (y .nodes)) (s .nodes) (x ∷ xs) (under-more (x ∷ xs) (omega arith) d)) w))))
+    (under-both (length (y .nodes)) (sort (s .nodes) (x ∷ xs)) inner
+    (under-sort (length (y .nodes)) (s .nodes) (x ∷ xs) (under-most _ _ (x ∷ xs) (omega arith) d)) w))))
 
 roots-factor-unions : (others us : List ℕ) (st : State) → Rooted (st .nodes) → Under (length (st .nodes)) others → Under (length (st .nodes)) us
     → Roots AllBelow (factorUnions others us) st
 roots-factor-unions others [] st r o u = roots-give AllBelow others st r o
 roots-factor-unions others (u ∷ []) st r o v =
     roots-bind AllBelow AllBelow (sole Union (membersAt (st .nodes) u)) _ st (roots-union (membersAt (st .nodes) u) st r (members-below (st .nodes) u r))
-    (λ x s g r w. roots-give AllBelow (others ++ x) s r (under-join (length (s .nodes)) others x (under-more others g o) w))
+    (λ x s g r w. roots-give AllBelow (others ++ x) s r (under-both (length (s .nodes)) others x (under-most _ _ others g o) w))
 roots-factor-unions others (u ∷ w ∷ us) st r o v =
     roots-factored others (u ∷ w ∷ us) (filter (λ (m : ℕ). all (λ (z : ℕ). contains (membersAt (st .nodes) z) m) (w ∷ us)) (membersAt (st .nodes) u)) st r o v
-    (under-sieved (length (st .nodes)) _ (membersAt (st .nodes) u) (members-below (st .nodes) u r))
+    (filter-under _ (length (st .nodes)) (membersAt (st .nodes) u) (members-below (st .nodes) u r))
 
 pub roots-factor : (ms : List ℕ) (st : State) → Rooted (st .nodes) → Under (length (st .nodes)) ms → Roots AllBelow (factor-shared-from-intersection ms) st
 unfolding factor-shared-from-intersection
 roots-factor ms st r u =
     roots-factor-unions (filter (λ (m : ℕ). not (is (st .nodes) unionKind m)) ms) (filter (is (st .nodes) unionKind) ms) st r
-    (under-sieved (length (st .nodes)) _ ms u) (under-sieved (length (st .nodes)) _ ms u)
+    (filter-under _ (length (st .nodes)) ms u) (filter-under _ (length (st .nodes)) ms u)
 
 -- negation
 module _ (f : ℕ → Run ℕ) (k : (m : ℕ) (st : State) → Rooted (st .nodes) → m < length (st .nodes) → Roots Below (f m) st) where
@@ -303,7 +273,7 @@ module _ (f : ℕ → Run ℕ) (k : (m : ℕ) (st : State) → Rooted (st .nodes
   roots-each [] st r u = roots-give AllBelow [] st r tt
   roots-each (m ∷ ms) st r u =
       roots-bind Below AllBelow (f m) _ st (k m st r (u .0))
-      (λ x s g r h. roots-bind AllBelow AllBelow (each f ms) _ s (roots-each ms s r (under-more ms g (u .1)))
+      (λ x s g r h. roots-bind AllBelow AllBelow (each f ms) _ s (roots-each ms s r (under-most _ _ ms g (u .1)))
       (λ xs z i r w. roots-give AllBelow (x ∷ xs) z r (omega arith, w)))
 
   roots-negate-node : (x : ℕ) (n : Node) (st : State) → Rooted (st .nodes) → x < length (st .nodes) → Under (length (st .nodes)) (children n) → Roots Below (negateNode f x n) st
@@ -347,7 +317,7 @@ roots-field f (g ∷ gs) st r h u =
     roots-if TypesBelow (ltb (f .key) (g .key)) _ _ st (roots-give TypesBelow (f ∷ g ∷ gs) st r (h, u))
     (roots-if TypesBelow (eqb (f .key) (g .key)) _ _ st
     (roots-bind Below TypesBelow (meetTypes (g .type) (f .type)) _ st (roots-meet (g .type) (f .type) st r (u .0) h)
-    (λ x s i r l. roots-give TypesBelow (record { key = g .key; type = x } ∷ gs) s r (l, under-more (fieldTypes gs) i (u .1))))
+    (λ x s i r l. roots-give TypesBelow (record { key = g .key; type = x } ∷ gs) s r (l, under-most _ _ (fieldTypes gs) i (u .1))))
     (roots-bind TypesBelow TypesBelow (mergeField f gs) _ st (roots-field f gs st r h (u .1))
     (λ hs s i r v. let l = u .0 in roots-give TypesBelow (g ∷ hs) s r (omega arith, v))))
 
@@ -356,7 +326,7 @@ roots-fields : (got fs : List Field) (st : State) → Rooted (st .nodes) → Und
 roots-fields got [] st r u v = roots-give TypesBelow got st r u
 roots-fields got (f ∷ fs) st r u v =
     roots-bind TypesBelow TypesBelow (mergeField f got) _ st (roots-field f got st r (v .0) u)
-    (λ more s i r w. roots-fields more fs s r w (under-more (fieldTypes fs) i (v .1)))
+    (λ more s i r w. roots-fields more fs s r w (under-most _ _ (fieldTypes fs) i (v .1)))
 
 roots-dyn : (d e : Option ℕ) (st : State) → Rooted (st .nodes) → Under (length (st .nodes)) (dynIds d) → Under (length (st .nodes)) (dynIds e) → Roots DynBelow (mergeDyn d e) st
 roots-dyn none e st r u v = roots-give DynBelow e st r v
@@ -372,7 +342,7 @@ KidsBelow k (a ∷ sets) = Under k (attrKids a) × KidsBelow k sets
 
 kids-more : {k l : ℕ} (sets : List Attr) → k ≤ l → KidsBelow k sets → KidsBelow l sets
 kids-more [] h u = tt
-kids-more (a ∷ sets) h u = (under-more (attrKids a) h (u .0), kids-more sets h (u .1))
+kids-more (a ∷ sets) h u = (under-most _ _ (attrKids a) h (u .0), kids-more sets h (u .1))
 
 roots-attrs : (fs : List Field) (d : Option ℕ) (sets : List Attr) (last : List Field → Option ℕ → Run ℕ) (st : State)
     → ((gs : List Field) (e : Option ℕ) (s : State) → Rooted (s .nodes) → Under (length (s .nodes)) (fieldTypes gs) → Under (length (s .nodes)) (dynIds e) → Roots Below (last gs e) s)
@@ -383,12 +353,12 @@ roots-attrs fs d (a ∷ sets) last st l r u v k =
     let n = length (st .nodes) in
     roots-bind DynBelow Below (mergeDyn d (a .dyn)) _ st (roots-dyn d (a .dyn) st r v (under-back n (fieldTypes (a .fields)) (dynIds (a .dyn)) (k .0)))
     (λ e s g r w. roots-bind TypesBelow Below (mergeFields fs (a .fields)) _ s
-    (roots-fields fs (a .fields) s r (under-more (fieldTypes fs) g u) (under-more (fieldTypes (a .fields)) g (under-front n (fieldTypes (a .fields)) (dynIds (a .dyn)) (k .0))))
-    (λ gs z h r x. roots-attrs gs e sets last z l r x (under-more (dynIds e) h w) (kids-more sets (omega arith) (k .1))))
+    (roots-fields fs (a .fields) s r (under-most _ _ (fieldTypes fs) g u) (under-most _ _ (fieldTypes (a .fields)) g (under-front n (fieldTypes (a .fields)) (dynIds (a .dyn)) (k .0))))
+    (λ gs z h r x. roots-attrs gs e sets last z l r x (under-most _ _ (dynIds e) h w) (kids-more sets (omega arith) (k .1))))
 
 roots-merged : (sets : List Attr) (st : State) → Rooted (st .nodes) → KidsBelow (length (st .nodes)) sets → Roots Below (merged sets) st
 roots-merged sets st r k =
-    roots-attrs [] none sets _ st (λ gs e s r u v. roots-store _ s r (under-join (length (s .nodes)) (fieldTypes gs) (dynIds e) u v)) r tt tt k
+    roots-attrs [] none sets _ st (λ gs e s r u v. roots-store _ s r (under-both (length (s .nodes)) (fieldTypes gs) (dynIds e) u v)) r tt tt k
 
 kids-of : (k : ℕ) (n : Node) (sets : List Attr) → Under k (children n) → KidsBelow k sets → KidsBelow k (attrOf (asAttr n) ++ sets)
 kids-of k (TyVar x) sets u v = v
@@ -414,21 +384,18 @@ roots-merge ms st r u =
     roots-if AllBelow (empty (attrsOf (st .nodes) ms)) _ _ st (roots-give AllBelow ms st r u)
     (roots-bind Below AllBelow (merged (attrsOf (st .nodes) ms)) _ st (roots-merged (attrsOf (st .nodes) ms) st r (kids-below (st .nodes) ms r))
     (λ x s g r h. roots-give AllBelow (others ++ (x ∷ [])) s r
-    (under-join (length (s .nodes)) others (x ∷ []) (under-more others g (under-sieved (length (st .nodes)) _ ms u)) (h, tt))))
+    (under-both (length (s .nodes)) others (x ∷ []) (under-most _ _ others g (filter-under _ (length (st .nodes)) ms u)) (h, tt))))
 
 -- steps of the rules
 pub roots-variable : (p : Pass) (id : ℕ) (st : State) → Rooted (st .nodes) → Roots Below (variable p id) st
 roots-variable p id st r = roots-store (TyVar (p .rep id)) st r tt
-
-pub roots-concrete : (p : Pass) (ms : List ℕ) (st : State) → Rooted (st .nodes) → Under (length (st .nodes)) ms → Roots AllBelow (concreteOf p ms) st
-roots-concrete p ms st r u = roots-give AllBelow _ st r (under-sieved (length (st .nodes)) (λ (m : ℕ). not (should-drop-filler p (st .nodes) m)) ms u)
 
 pub roots-flattened : (k : ℕ) (xs : List ℕ) (st : State) → Rooted (st .nodes) → Under (length (st .nodes)) xs → Roots AllBelow (flattened k xs) st
 roots-flattened k xs st r u =
     roots-bind AllBelow AllBelow (limit xs) _ st (roots-limit xs st r u)
     (λ ms s g r v. roots-limit (flatten-composite k (s .nodes) ms) s r (flatten-below k (s .nodes) r ms v))
 
-pub roots-settle : (cancelled : Bool) (rest : Run ℕ) (wrap : List ℕ → Node) (xs : List ℕ) (st : State) → Wraps wrap → Rooted (st .nodes) → Under (length (st .nodes)) xs
+roots-settle : (cancelled : Bool) (rest : Run ℕ) (wrap : List ℕ → Node) (xs : List ℕ) (st : State) → Wraps wrap → Rooted (st .nodes) → Under (length (st .nodes)) xs
     → Roots Below rest st → Roots Below (settle cancelled rest wrap xs) st
 roots-settle cancelled rest wrap [] st w r u k = roots-if Below cancelled _ _ st (roots-store Top st r tt) k
 roots-settle cancelled rest wrap (x ∷ []) st w r u k = roots-give Below x st r (u .0)
@@ -448,7 +415,7 @@ pub roots-firstOf : (ys : List ℕ) (st : State) → Rooted (st .nodes) → Unde
 roots-firstOf [] st r u = roots-store Bottom st r tt
 roots-firstOf (y ∷ ys) st r u = roots-give Below y st r (u .0)
 
-pub roots-interNormalized : (p : Pass) (pol : Polarity) (ms : List ℕ) (st : State) → Rooted (st .nodes) → Under (length (st .nodes)) ms → Roots AllBelow (interNormalized p pol ms) st
+roots-interNormalized : (p : Pass) (pol : Polarity) (ms : List ℕ) (st : State) → Rooted (st .nodes) → Under (length (st .nodes)) ms → Roots AllBelow (interNormalized p pol ms) st
 roots-interNormalized p Positive ms st r u =
     roots-give AllBelow _ st r (under-cancelled (length (st .nodes)) (st .nodes) (remove-redundant-negations (p .functor) (st .nodes) ms) (under-needed (length (st .nodes)) (p .functor) (st .nodes) ms u))
 roots-interNormalized p Negative ms st r u =
@@ -462,7 +429,7 @@ roots-interRest p pol ys ms st r u v =
     roots-bind AllBelow Below (interNormalized p pol ms) _ st (roots-interNormalized p pol ms st r v)
     (λ xs s g r w. roots-bind AllBelow Below (simplify-union-neg-intersection (p .functor) xs) _ s (roots-simplify (p .functor) xs s r w)
     (λ simple z h r w. roots-bind AllBelow Below (factor-shared-from-intersection simple) _ z (roots-factor simple z r w)
-    (λ zs y i r w. roots-settle (topIfEmptied pol ms) (firstMember ys) Intersection zs y (λ k ws o. o) r w (roots-firstOf ys y r (under-more ys (omega arith) u)))))
+    (λ zs y i r w. roots-settle (topIfEmptied pol ms) (firstMember ys) Intersection zs y (λ k ws o. o) r w (roots-firstOf ys y r (under-most _ _ ys (omega arith) u)))))
 
 pub roots-unionNormalized : (pol : Polarity) (ms : List ℕ) (st : State) → Rooted (st .nodes) → Under (length (st .nodes)) ms → Roots AllBelow (unionNormalized pol ms) st
 roots-unionNormalized Positive ms st r u =

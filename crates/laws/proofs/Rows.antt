@@ -97,13 +97,13 @@ pub dyns-read : {w : List ℕ} {p : ℕ} (d : Option ℕ) → Holds w p (dynWord
 dyns-read none h = holds-head h
 dyns-read (some d) h = holds-head h
 
-pub dyn-read : {w : List ℕ} {p : ℕ} (d : Option ℕ) → Holds w p (dynWords d) → dynAt w p ≡ d
+dyn-read : {w : List ℕ} {p : ℕ} (d : Option ℕ) → Holds w p (dynWords d) → dynAt w p ≡ d
 dyn-read {w} {p} none h = ap (λ (k : ℕ). if (eqb k 0) (λ _. none) (λ _. some (cell w (p + 1)))) (holds-head h)
 dyn-read {w} {p} (some d) h =
     ap (λ (k : ℕ). if (eqb k 0) (λ _. none) (λ _. some (cell w (p + 1)))) (holds-head h)
     ∙ ap some (ap (cell w) (omega arith) ∙ holds-head (holds-tail h))
 
-pub fields-read : {w : List ℕ} {p : ℕ} (fs : List Field) → Holds w p (fieldWords fs) → fieldsAt w p (length fs) ≡ fs
+fields-read : {w : List ℕ} {p : ℕ} (fs : List Field) → Holds w p (fieldWords fs) → fieldsAt w p (length fs) ≡ fs
 fields-read [] h = refl
 fields-read {w} {p} (f ∷ fs) h =
     ap₂ {C = List Field} (λ (g : Field) (gs : List Field). g ∷ gs)

@@ -15,6 +15,7 @@ use Rattle.rules.specs.Ceilings.{mostMembers, mostNodes, mostCells}
 use Rattle.rules.specs.Types.{Node, Bottom, State, Out, ok, no, encode, members, children, cellsOf, nodeAt, grown, keep, store}
 use Rattle.laws.proofs.Rows.{encode-injective}
 use Rattle.cells.specs.Placed.{Under}
+use Rattle.cells.proofs.Choices.{true-false}
 use mathlib.Core.Option.{Option, some, none}
 use Rattle.rules.specs.Plain.{find}
 
@@ -39,10 +40,6 @@ keep-over n st h k = ap₂ (λ (b c : Bool). behind b c n st) (lt-ltb (length (s
 
 pub keep-new : (n : Node) (st : State) → length (st .nodes) < mostNodes → st .cells + cellsOf n ≤ mostCells → keep n st none ≡ ok (length (st .nodes)) (grown n st)
 keep-new n st h k = ap₂ (λ (b c : Bool). behind b c n st) (lt-ltb (length (st .nodes)) mostNodes h) (le-ltb mostCells (st .cells + cellsOf n) k)
-
--- what tells two constructors apart
-pub true-false : {A : Type 0} → true ≡ false → A
-true-false e = let z : _≡_ {A = ℕ} 0 1 = cc in absurd (omega arith)
 
 -- lists that the test calls equal, are equal
 eqList-turn : (b : Bool) (x y : ℕ) (xs ys : List ℕ) → eqb x y ≡ b → (eqList xs ys ≡ true → xs ≡ ys) → if b (λ _. eqList xs ys) (λ _. false) ≡ true → x ∷ xs ≡ y ∷ ys

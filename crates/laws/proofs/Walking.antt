@@ -1,32 +1,24 @@
 -- The walk from a node: each node once, children before it, all of them nodes; and where a child stands. Assumes nothing.
 use mathlib.Core.Path.{_≡_, refl, sym, ap, _∙_, subst}
 use mathlib.Core.Bool.{Bool, true, false}
-use mathlib.Core.Logic.{⊎-elim}
 use Prim.Native.Nat.{ℕ, zero, suc, _+_, _≤_, _<_}
 use native.Mathlib.Omega.{arith}
-use native.Mathlib.Nat.{eq-or-lt-of-le, not-suc-le-zero}
+use native.Mathlib.Nat.{not-suc-le-zero}
 use mathlib.Core.List.{List, [], _∷_, _++_, foldl, append-nil, append-assoc}
 use mathlib.Core.Option.{some, Option·getD}
 use lib.ListN.{length}
 use lib.Dec.{eqb}
-use borrow.Author.Tests.{eq-eqb, ne-eqb}
+use borrow.Author.Tests.{eqb-true}
 use Rattle.cells.specs.Part.{if}
 use Rattle.rules.specs.Plain.{find, contains, position}
 use Rattle.rules.specs.Types.{Node, children, nodeAt}
 use Rattle.rules.specs.Listing.{walkBy, walk}
-use Rattle.laws.proofs.Storing.{true-false, Rooted}
-use Rattle.laws.proofs.Admitting.{by-test}
+use Rattle.laws.proofs.Storing.{Rooted}
 use Rattle.laws.proofs.Rooting.{All}
+use Rattle.laws.proofs.Spreading.{Spread, spread-none, spread-more, spread-few}
+use Rattle.laws.proofs.Containing.{last-itself, last-other}
 use Rattle.cells.specs.Placed.{Under}
-
--- one more at the end
-contains-same : (xs : List ℕ) (x : ℕ) → contains (xs ++ (x ∷ [])) x ≡ true
-contains-same [] x = rw (eq-eqb x x refl)
-contains-same (z ∷ xs) x = by-test (λ (b : Bool). b ≡ true) (eqb x z) _ _ (λ _. refl) (λ _. contains-same xs x)
-
-contains-other : (xs : List ℕ) (x y : ℕ) → (y ≡ x → ⊥) → contains (xs ++ (x ∷ [])) y ≡ contains xs y
-contains-other [] x y h = rw (ne-eqb y x h)
-contains-other (z ∷ xs) x y h = ap (λ (b : Bool). if (eqb y z) (λ _. true) (λ _. b)) (contains-other xs x y h)
+use Rattle.cells.proofs.Choices.{by-test, true-false}
 
 left-turn : (b : Bool) (c d : Bool) → (c ≡ true → d ≡ true) → if b (λ _. true) (λ _. c) ≡ true → if b (λ _. true) (λ _. d) ≡ true
 left-turn true c d f h = refl
@@ -52,11 +44,11 @@ steps-more ns pre (y ∷ xs) x h s =
     (h .0, steps-more ns (pre ++ (y ∷ [])) xs x (h .1) (subst (λ (l : List ℕ). Step ns l x) (sym (append-assoc pre (y ∷ []) xs)) s))
 
 -- from seen the walk comes to out, with xs, and with nothing new from k on
-record Walked (ns : List Node) (seen xs : List ℕ) (k : ℕ) (out : List ℕ) : Type 0 where
-  steps : Steps ns [] out
-  has : All (λ (y : ℕ). contains out y ≡ true) xs
-  keeps : (y : ℕ) → contains seen y ≡ true → contains out y ≡ true
-  low : (y : ℕ) → contains seen y ≡ false → k ≤ y → contains out y ≡ false
+pub record Walked (ns : List Node) (seen xs : List ℕ) (k : ℕ) (out : List ℕ) : Type 0 where
+  pub steps : Steps ns [] out
+  pub has : All (λ (y : ℕ). contains out y ≡ true) xs
+  pub keeps : (y : ℕ) → contains seen y ≡ true → contains out y ≡ true
+  pub low : (y : ℕ) → contains seen y ≡ false → k ≤ y → contains out y ≡ false
 
 all-kept : (seen out : List ℕ) → ((y : ℕ) → contains seen y ≡ true → contains out y ≡ true) → (xs : List ℕ)
     → All (λ (y : ℕ). contains seen y ≡ true) xs → All (λ (y : ℕ). contains out y ≡ true) xs
@@ -64,10 +56,10 @@ all-kept seen out f [] h = tt
 all-kept seen out f (x ∷ xs) h = (f x (h .0), all-kept seen out f xs (h .1))
 
 module _ (ns : List Node) (r : Rooted ns) where
-  abbrev Walker : ℕ → Type 0
+  abbrev pub Walker : ℕ → Type 0
   Walker f = (seen : List ℕ) (x : ℕ) → x < f → x < length ns → Steps ns [] seen → Walked ns seen (x ∷ []) (suc x) (walkBy f ns seen x)
 
-  walk-each : (f : ℕ) → Walker f → (seen xs : List ℕ) (k : ℕ) → Under k xs → k ≤ f → k ≤ length ns → Steps ns [] seen
+  pub walk-each : (f : ℕ) → Walker f → (seen xs : List ℕ) (k : ℕ) → Under k xs → k ≤ f → k ≤ length ns → Steps ns [] seen
       → Walked ns seen xs k (foldl (walkBy f ns) seen xs)
   walk-each f w seen [] k u a b s = record { steps = s; has = tt; keeps = λ y h. h; low = λ y h l. h }
   walk-each f w seen (x ∷ xs) k u a b s =
@@ -81,7 +73,7 @@ module _ (ns : List Node) (r : Rooted ns) where
         low = λ y i l. h .low y (g .low y i (omega arith)) l;
       }
 
-  walk-by : (f : ℕ) → Walker f
+  pub walk-by : (f : ℕ) → Walker f
   walk-by zero seen x a b s = absurd (not-suc-le-zero a)
   walk-by (suc f) seen x a b s =
       by-test (Walked ns seen (x ∷ []) (suc x)) (contains seen x) _ _
@@ -92,9 +84,9 @@ module _ (ns : List Node) (r : Rooted ns) where
       let g = walk-each f (walk-by f) seen kids x (r .is x b) (omega arith) (omega arith) s in
       record {
         steps = steps-more ns [] out x (g .steps) (record { new = g .low x e (omega arith); below = b; kids = g .has });
-        has = (contains-same out x, tt);
+        has = (last-itself x out, tt);
         keeps = λ y h. contains-left out (x ∷ []) y (g .keeps y h);
-        low = λ y h l. contains-other out x y (λ z. omega arith) ∙ g .low y h (omega arith);
+        low = λ y h l. last-other x y (λ z. omega arith) out ∙ g .low y h (omega arith);
       })
 
   walked : (x : ℕ) → x < length ns → Walked ns [] (x ∷ []) (suc x) (walk ns x)
@@ -111,52 +103,43 @@ module _ (ns : List Node) (r : Rooted ns) where
     filled [] e = true-false (sym e)
     filled (y ∷ l) e = omega arith
 
--- the numbers below n that are not in pre
-abbrev free : Bool → ℕ
-free true = 0
-free false = 1
+-- each once, so no more than there are nodes
+steps-spread : (ns : List Node) (pre xs : List ℕ) → Steps ns pre xs → Spread (length ns) pre → Spread (length ns) (pre ++ xs)
+steps-spread ns pre [] h s = subst (Spread (length ns)) (sym (append-nil pre)) s
+steps-spread ns pre (x ∷ xs) h s =
+    subst (Spread (length ns)) (append-assoc pre (x ∷ []) xs)
+    (steps-spread ns (pre ++ (x ∷ [])) xs (h .1) (spread-more pre x s (h .0 .new) (h .0 .below)))
 
-abbrev unseen : ℕ → List ℕ → ℕ
-unseen zero pre = 0
-unseen (suc k) pre = unseen k pre + free (contains pre k)
+pub steps-few : (ns : List Node) (xs : List ℕ) → Steps ns [] xs → length xs ≤ length ns
+steps-few ns xs h = spread-few (steps-spread ns [] xs h (spread-none (length ns)))
 
-unseen-few : (n : ℕ) (pre : List ℕ) → unseen n pre ≤ n
-unseen-few zero pre = omega arith
-unseen-few (suc k) pre = by-free (contains pre k) (unseen-few k pre) where
-  by-free : (b : Bool) → unseen k pre ≤ k → unseen k pre + free b ≤ suc k
-  by-free true h = omega arith
-  by-free false h = omega arith
+pub walk-spread : (ns : List Node) → Rooted ns → (x : ℕ) → x < length ns → Spread (length ns) (walk ns x)
+walk-spread ns r x h = steps-spread ns [] (walk ns x) (walk-steps ns r x h) (spread-none (length ns))
 
-module _ (pre : List ℕ) (x : ℕ) where
-  unseen-past : (n : ℕ) → n ≤ x → unseen n (pre ++ (x ∷ [])) ≡ unseen n pre
-  unseen-past zero h = refl
-  unseen-past (suc k) h =
-      let a = unseen-past k (omega arith) in
-      let b = ap free (contains-other pre x k (λ e. omega arith)) in omega arith
-
-  -- a new one is no more among them
-  unseen-new : contains pre x ≡ false → (n : ℕ) → x < n → suc (unseen n (pre ++ (x ∷ []))) ≡ unseen n pre
-  unseen-new e zero h = absurd (not-suc-le-zero h)
-  unseen-new e (suc k) h =
-      ⊎-elim
-      (λ (i : x ≡ k).
-      let a = unseen-past k (omega arith) in
-      let b = ap (λ (m : ℕ). free (contains (pre ++ (x ∷ [])) m)) (sym i) ∙ ap free (contains-same pre x) in
-      let c = ap (λ (m : ℕ). free (contains pre m)) (sym i) ∙ ap free e in omega arith)
-      (λ (l : x < k).
-      let a = unseen-new e k l in
-      let b = ap free (contains-other pre x k (λ z. omega arith)) in omega arith)
-      (eq-or-lt-of-le {n = x} {m = k} (omega arith))
-
-steps-few : (ns : List Node) (pre xs : List ℕ) → Steps ns pre xs → length xs ≤ unseen (length ns) pre
-steps-few ns pre [] h = omega arith
-steps-few ns pre (x ∷ xs) h =
-    let a = steps-few ns (pre ++ (x ∷ [])) xs (h .1) in
-    let b = unseen-new pre x (h .0 .new) (length ns) (h .0 .below) in omega arith
-
--- no more than there are nodes
 pub walk-few : (ns : List Node) → Rooted ns → (x : ℕ) → x < length ns → length (walk ns x) ≤ length ns
-walk-few ns r x h = let a = steps-few ns [] (walk ns x) (walk-steps ns r x h) in let b = unseen-few (length ns) [] in omega arith
+walk-few ns r x h = spread-few (walk-spread ns r x h)
+
+-- what is contained is the first, or is among the rest
+by-first : {A : Type 0} (x z : ℕ) (xs : List ℕ) → contains (z ∷ xs) x ≡ true → (x ≡ z → A) → (contains xs x ≡ true → A) → A
+by-first {A} x z xs c f g = turn (eqb x z) refl c where
+  turn : (b : Bool) → eqb x z ≡ b → if b (λ _. true) (λ _. contains xs x) ≡ true → A
+  turn true e c = f (eqb-true x z e)
+  turn false e c = g c
+
+all-has : (P : ℕ → Type 0) (xs : List ℕ) (y : ℕ) → All P xs → contains xs y ≡ true → P y
+all-has P [] y h c = true-false (sym c)
+all-has P (x ∷ xs) y h c = by-first y x xs c (λ e. subst P (sym e) (h .0)) (λ d. all-has P xs y (h .1) d)
+
+-- the children of what is reached are reached
+pub steps-closed : (ns : List Node) (pre xs : List ℕ) (x y : ℕ) → Steps ns pre xs → contains xs x ≡ true → contains (children (nodeAt ns x)) y ≡ true
+    → contains (pre ++ xs) y ≡ true
+steps-closed ns pre [] x y h c d = true-false (sym c)
+steps-closed ns pre (z ∷ xs) x y h c d =
+    by-first x z xs c
+    (λ e. contains-left pre (z ∷ xs) y
+    (all-has (λ (k : ℕ). contains pre k ≡ true) (children (nodeAt ns z)) y (h .0 .kids)
+    (subst (λ (k : ℕ). contains (children (nodeAt ns k)) y ≡ true) e d)))
+    (λ e. subst (λ (l : List ℕ). contains l y ≡ true) (append-assoc pre (z ∷ []) xs) (steps-closed ns (pre ++ (z ∷ [])) xs x y (h .1) e d))
 
 -- what is among the first stands among them
 found-within : (i d y : ℕ) (xs ys : List ℕ) → contains xs y ≡ true → Option·getD (find (eqb y) i (xs ++ ys)) d < i + length xs

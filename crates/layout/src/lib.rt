@@ -9,9 +9,13 @@ pub struct TableSlice {}
 
 impl TableSlice {
     pub const MARKS: u32 = 2048;
+
     pub const PRESERVED: u32 = 4096;
+
     pub const ROWS: u32 = 6144;
+
     pub const WORDS: u32 = 11842;
+
     pub const LENGTH: usize = 77378;
 }
 
@@ -20,6 +24,7 @@ pub struct ArenaSlice {}
 
 impl ArenaSlice {
     pub const WORDS: u32 = 4097;
+
     pub const LENGTH: usize = 53249;
     // recheck reads the lines of the old listing into it, one at a time, before any run
     pub const LINE: usize = 65536;
@@ -30,12 +35,17 @@ pub struct WorkSlice {}
 
 impl WorkSlice {
     pub const BITS: u32 = 4096;
+
     pub const SEEN: u32 = 6144;
+
     pub const COUNTED_NODES: u32 = 8192;
+
     pub const COUNTED_CELLS: u32 = 8193;
+
     pub const HELD: u32 = 8194;
     // a merge holds its fields in one of two areas of this length, a key and a type each
     pub const AREA: u32 = 2048;
+
     pub const LENGTH: usize = 49152;
 }
 
@@ -53,9 +63,13 @@ pub struct LinkSlice {}
 
 impl LinkSlice {
     pub const HEAD: u32 = 0;
+
     pub const NEXT: u32 = 2048;
+
     pub const FROM: u32 = 10241;
+
     pub const MARKS: u32 = 18434;
+
     pub const QUEUE: u32 = 20482;
 }
 

@@ -64,11 +64,11 @@ set-texts t =
     let rest = t .isOpen ∷ length (t .optional) ∷ t .optional in
     let e : 1 + 2 * n ≡ suc (2 * n) = omega arith in
     ap₂ {C = List (List ℕ)} (λ (k : ℕ) (l : List ℕ). fieldText someFields (take k (n ∷ l)) ∷ shapeTexts (aDyn ∷ aFlag ∷ aList ∷ []) (drop k (n ∷ l)))
-      e
-      (append-assoc (fieldWords (t .fields)) (dynWords (t .dyn)) rest)
+    e
+    (append-assoc (fieldWords (t .fields)) (dynWords (t .dyn)) rest)
     ∙ ap₂ {C = List (List ℕ)} (λ (a b : List ℕ). fieldText someFields (n ∷ a) ∷ shapeTexts (aDyn ∷ aFlag ∷ aList ∷ []) b)
-      (take-at (fieldWords (t .fields)) (dynWords (t .dyn) ++ rest) (2 * n) (field-words-length (t .fields)))
-      (drop-at (fieldWords (t .fields)) (dynWords (t .dyn) ++ rest) (2 * n) (field-words-length (t .fields)))
+    (take-at (fieldWords (t .fields)) (dynWords (t .dyn) ++ rest) (2 * n) (field-words-length (t .fields)))
+    (drop-at (fieldWords (t .fields)) (dynWords (t .dyn) ++ rest) (2 * n) (field-words-length (t .fields)))
     ∙ ap (λ (l : List (List ℕ)). listText (keyedText (fieldWords (t .fields))) ∷ l) (dyn-texts (t .dyn) (t .isOpen) (t .optional))
 
 -- the cells of a dyn
@@ -124,10 +124,10 @@ module _ {w work : List ℕ} {a d e n g h m v p q₁ q₂ q₃ r : ℕ} {o o₁ 
         (wrote-more (wrote-more (wrote-more (fields .is s) dyn-written) (wrote-as opened (ap (λ (k : ℕ). tab ∷ decimal k) (ov .is s))))
         (wrote-as (keys .is) (ap (λ (l : List ℕ). tab ∷ listText (map decimal l)) keys-is)))
         (together
-          (listText (keyedText (fieldWords (renumbered .fields))))
-          (listText (map decimal (dynIds (renumbered .dyn))))
-          (decimal (t .isOpen))
-          (listText (map decimal (t .optional)))
+        (listText (keyedText (fieldWords (renumbered .fields))))
+        (listText (map decimal (dynIds (renumbered .dyn))))
+        (decimal (t .isOpen))
+        (listText (map decimal (t .optional)))
         ∙ ap tabbed (sym (set-texts renumbered)))
       where
         together : (a b c d : List ℕ) → (tab ∷ a) ++ (tab ∷ b) ++ (tab ∷ c) ++ (tab ∷ d) ≡ tabbed (a ∷ b ∷ c ∷ d ∷ [])
@@ -210,34 +210,34 @@ module _ {arena work : List ℕ} {x k : ℕ} (kd : Kind arena x k) where
       unfolding fieldText
       contents-lambda e g h = as-node (wrote-more g h)
           (λ _ ns ar lt f.
-              here work ns x (Lambda a b) (ap (λ (l : List ℕ). tab ∷ (numbered work a ++ l)) (sym (append-nil (tab ∷ numbered work b))))
-              (lambda-at ar lt (f ∙ e) wa wb))
+          here work ns x (Lambda a b) (ap (λ (l : List ℕ). tab ∷ (numbered work a ++ l)) (sym (append-nil (tab ∷ numbered work b))))
+          (lambda-at ar lt (f ∙ e) wa wb))
 
       pub contents-named : k ≡ 7 → Wrote (tab ∷ decimal a) p o o₁ q → Wrote (tab ∷ numbered work b) q o₁ o′ r → WroteContents arena work x p o o′ r
       unfolding fieldText
       contents-named e g h = as-node (wrote-more g h)
           (λ _ ns ar lt f.
-              here work ns x (Named a b) (ap (λ (l : List ℕ). tab ∷ (decimal a ++ l)) (sym (append-nil (tab ∷ numbered work b))))
-              (named-at ar lt (f ∙ e) wa wb))
+          here work ns x (Named a b) (ap (λ (l : List ℕ). tab ∷ (decimal a ++ l)) (sym (append-nil (tab ∷ numbered work b))))
+          (named-at ar lt (f ∙ e) wa wb))
 
     module _ {v m : ℕ} (at : v ≡ cell arena x) (s : Sum v 2 m) (l : WroteList (numbered work) arena m a p o o′ r) where
       pub contents-union : k ≡ 5 → WroteContents arena work x p o o′ r
       contents-union e = as-node (l .is)
           (λ q ns ar lt f.
-              let row = union-row (nodeAt ns x) (f ∙ e) in
-              here work ns x (Union (members (nodeAt ns x)))
-              (ap (λ (xs : List ℕ). tab ∷ listText (map (numbered work) xs)) (members-at ar lt 5 row at s (count-union kd e wa .is ar lt))
-              ∙ list-text (numberOf work) (members (nodeAt ns x)))
-              (encode-injective (Union (members (nodeAt ns x))) (nodeAt ns x) (sym row)))
+          let row = union-row (nodeAt ns x) (f ∙ e) in
+          here work ns x (Union (members (nodeAt ns x)))
+          (ap (λ (xs : List ℕ). tab ∷ listText (map (numbered work) xs)) (members-at ar lt 5 row at s (count-union kd e wa .is ar lt))
+          ∙ list-text (numberOf work) (members (nodeAt ns x)))
+          (encode-injective (Union (members (nodeAt ns x))) (nodeAt ns x) (sym row)))
 
       pub contents-intersection : k ≡ 6 → WroteContents arena work x p o o′ r
       contents-intersection e = as-node (l .is)
           (λ q ns ar lt f.
-              let row = intersection-row (nodeAt ns x) (f ∙ e) in
-              here work ns x (Intersection (members (nodeAt ns x)))
-              (ap (λ (xs : List ℕ). tab ∷ listText (map (numbered work) xs)) (members-at ar lt 6 row at s (count-intersection kd e wa .is ar lt))
-              ∙ list-text (numberOf work) (members (nodeAt ns x)))
-              (encode-injective (Intersection (members (nodeAt ns x))) (nodeAt ns x) (sym row)))
+          let row = intersection-row (nodeAt ns x) (f ∙ e) in
+          here work ns x (Intersection (members (nodeAt ns x)))
+          (ap (λ (xs : List ℕ). tab ∷ listText (map (numbered work) xs)) (members-at ar lt 6 row at s (count-intersection kd e wa .is ar lt))
+          ∙ list-text (numberOf work) (members (nodeAt ns x)))
+          (encode-injective (Intersection (members (nodeAt ns x))) (nodeAt ns x) (sym row)))
 
   pub contents-set : {a p r : ℕ} {o o′ : List ℕ} → k ≡ 4 → SetPlace arena x a → WroteSet arena work a p o o′ r → WroteContents arena work x p o o′ r
   contents-set e s g = record {
@@ -251,6 +251,6 @@ module _ {arena work : List ℕ} {x k : ℕ} (kd : Kind arena x k) where
       → WroteContents arena work x p o o p
   contents-empty {p} {o} h₀ h₁ h₂ h₈ h₃ h₇ h₄ h₅ h₆ = as-node (wrote-none p o)
       (λ q ns ar lt f.
-          contents-none (numberOf work) (nodeAt ns x)
-          (λ e. h₀ (sym f ∙ e)) (λ e. h₁ (sym f ∙ e)) (λ e. h₂ (sym f ∙ e)) (λ e. h₈ (sym f ∙ e)) (λ e. h₃ (sym f ∙ e))
-          (λ e. h₇ (sym f ∙ e)) (λ e. h₄ (sym f ∙ e)) (λ e. h₅ (sym f ∙ e)) (λ e. h₆ (sym f ∙ e)))
+      contents-none (numberOf work) (nodeAt ns x)
+      (λ e. h₀ (sym f ∙ e)) (λ e. h₁ (sym f ∙ e)) (λ e. h₂ (sym f ∙ e)) (λ e. h₈ (sym f ∙ e)) (λ e. h₃ (sym f ∙ e))
+      (λ e. h₇ (sym f ∙ e)) (λ e. h₄ (sym f ∙ e)) (λ e. h₅ (sym f ∙ e)) (λ e. h₆ (sym f ∙ e)))

@@ -6,7 +6,7 @@ use Rattle.rules.specs.Plain.{ascii, flag}
 use Rattle.rules.specs.Text.{tab, parted, decimal, fieldText, aSign, rowTexts, lineText}
 use Rattle.rules.specs.Canonicalizer.{refusedWith}
 use Rattle.rules.specs.Listing.{answersText, answerText}
-use Rattle.listing.specs.declared.lines.Head.{Head}
+use Rattle.lang_ty.specs.declared.arena.Shown.{Shown}
 use Rattle.listing.specs.Writes.{Wrote}
 use Rattle.listing.specs.Printed.{tabbed, countTexts, headLine}
 use Rattle.listing.proofs.Texts.{wrote-more, wrote-as}
@@ -37,7 +37,7 @@ module _ {p q₁ q₂ q₃ q₄ r : ℕ} {o o₁ o₂ o₃ o₄ o₅ : List ℕ}
   unfolding rowTexts fieldText
   refused-root-is id s n a b c d e = wrote-as (wrote-more (wrote-more (wrote-more (wrote-more a b) c) d) e) (simp append-assoc)
 
-  pub counts-is : {x y : ℕ} (s : Head) (n : ℕ) → Wrote (tab ∷ decimal (s .passes)) p o o₁ q₁ → Wrote (tab ∷ decimal (s .ops)) q₁ o₁ o₂ q₂ → x ≡ flag (s .sorted)
+  pub counts-is : {x y : ℕ} (s : Shown) (n : ℕ) → Wrote (tab ∷ decimal (s .passes)) p o o₁ q₁ → Wrote (tab ∷ decimal (s .ops)) q₁ o₁ o₂ q₂ → x ≡ flag (s .sorted)
       → Wrote (tab ∷ decimal x) q₂ o₂ o₃ q₃ → y ≡ flag (s .bailed) → Wrote (tab ∷ decimal y) q₃ o₃ o₄ q₄ → Wrote (tab ∷ decimal n) q₄ o₄ o₅ r
       → Wrote (tabbed (countTexts s n)) p o o₅ r
   counts-is {x} {y} s n a b e c f d g =
@@ -48,15 +48,15 @@ module _ {p q₁ q₂ q₃ q₄ r : ℕ} {o o₁ o₂ o₃ o₄ o₅ : List ℕ}
       together : (a b c d e : List ℕ) → (tab ∷ a) ++ (tab ∷ b) ++ (tab ∷ c) ++ (tab ∷ d) ++ (tab ∷ e) ≡ tabbed (a ∷ b ∷ c ∷ d ∷ e ∷ [])
       together a b c d e = simp (append-assoc, append-nil)
 
-  pub root-line-is : (id sign : ℕ) (s : Head) (n : ℕ) → Wrote (ascii "root") p o o₁ q₁ → Wrote (tab ∷ decimal id) q₁ o₁ o₂ q₂
+  pub root-line-is : (id sign : ℕ) (s : Shown) (n : ℕ) → Wrote (ascii "root") p o o₁ q₁ → Wrote (tab ∷ decimal id) q₁ o₁ o₂ q₂
       → Wrote (tab ∷ fieldText aSign (sign ∷ [])) q₂ o₂ o₃ q₃ → Wrote (tabbed (countTexts s n)) q₃ o₃ o₄ q₄ → Wrote (10 ∷ []) q₄ o₄ o₅ r
       → Wrote (headLine id sign s n) p o o₅ r
   unfolding rowTexts fieldText
   root-line-is id sign s n a b c d e =
       wrote-as (wrote-more (wrote-more (wrote-more (wrote-more a b) c) d) e)
       (ap (λ (l : List ℕ). l ++ (10 ∷ []))
-        (append-assoc (ascii "root" ++ (tab ∷ decimal id)) (tab ∷ fieldText aSign (sign ∷ [])) (tabbed (countTexts s n))
-        ∙ append-assoc (ascii "root") (tab ∷ decimal id) (tab ∷ (fieldText aSign (sign ∷ []) ++ tabbed (countTexts s n))))
+      (append-assoc (ascii "root" ++ (tab ∷ decimal id)) (tab ∷ fieldText aSign (sign ∷ [])) (tabbed (countTexts s n))
+      ∙ append-assoc (ascii "root") (tab ∷ decimal id) (tab ∷ (fieldText aSign (sign ∷ []) ++ tabbed (countTexts s n))))
       ∙ line-tabbed (ascii "root") (decimal id ∷ fieldText aSign (sign ∷ []) ∷ countTexts s n))
 
 -- a number in other words

@@ -6,5 +6,3 @@ pub mod Listings
 pub mod Heads
 pub mod Contents
 pub mod NodeLines
-pub mod Forms
-pub mod Takes

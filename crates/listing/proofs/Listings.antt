@@ -135,8 +135,8 @@ module _ {w work : List ℕ} {a n p q i : ℕ} {o o₁ : List ℕ} (l : FieldsWr
         element (fieldPiece work (t .fields)) 0 i (l .so h)
         (wrote-as (wrote-more b (wrote-more d (wrote-more e g)))
         (ap₂ {C = List ℕ} (λ (x y : ℕ). partedBy i ∷ (decimal x ++ (colon ∷ decimal y)))
-          (key .is h (omega arith))
-          (f ∙ ap (numberOf work) (ty .is h (omega arith)))
+        (key .is h (omega arith))
+        (f ∙ ap (numberOf work) (ty .is h (omega arith)))
         ∙ ap (λ (j : ℕ). partedBy i ∷ fieldPiece work (t .fields) j) here));
   }
 

@@ -1,6 +1,6 @@
 -- The lines of a root's nodes. Assumes nothing.
 use mathlib.Core.Path.{_≡_, refl, sym, ap, ap₂, _∙_}
-use mathlib.Core.Bool.{Bool, true, false}
+use mathlib.Core.Bool.{true}
 use Prim.Native.Nat.{ℕ, suc, _+_, _≤_, _<_}
 use native.Mathlib.Omega.{arith}
 use native.Mathlib.Numerals.{add-one}
@@ -8,41 +8,30 @@ use mathlib.Core.List.{List, [], _∷_, _++_, map, append-nil, append-assoc}
 use lib.ListN.{length, getD, take}
 use lib.Seq.{take-suc, take-all, length-take-le}
 use lib.Dec.{eqb}
-use borrow.Author.Tests.{eq-eqb}
-use Rattle.cells.specs.Part.{if, cell}
+use Rattle.cells.specs.Part.{cell}
 use Rattle.cells.proofs.Holding.{holds-at}
-use Rattle.rules.specs.Plain.{ascii, contains, position}
+use Rattle.cells.proofs.Parts.{run-getD}
+use Rattle.rules.specs.Plain.{contains, position}
 use Rattle.rules.specs.Text.{decimal, rowTexts, noKind}
+use Rattle.rules.specs.Text as Text
 use Rattle.rules.specs.Table.{Field, fieldTypes, dynIds}
 use Rattle.rules.specs.Types.{Node, TyVar, Primitive, ListOf, Lambda, AttrSet, Union, Intersection, Named, Neg, Bottom, Top, nodeKinds, encode, kindOf}
 use Rattle.rules.specs.Types.{children, nodeAt}
 use Rattle.rules.specs.Listing.{walk, renumber, renumberField, renumberDyn, nodeText, nodeTexts}
+use Rattle.laws.proofs.Walking.{steps-closed}
+use Rattle.text.specs.Keywords.{wordAt, kindAt, kindsIn}
 use Rattle.lang_ty.specs.declared.arena.Pass.{Pass}
+use Rattle.lang_ty.specs.declared.arena.Shown.{Shown}
 use Rattle.lang_ty.specs.Nodes.{Arena, Kind}
-use Rattle.listing.specs.declared.lines.Head.{Head}
-use Rattle.listing.specs.Writes.{Wrote}
+use Rattle.listing.specs.Writes.{Wrote, WroteKeyword}
 use Rattle.listing.specs.Walks.{orderAt, numberOf, Numbered, Walks}
-use Rattle.listing.specs.Printed.{headLine, contentsText, WroteContents, WroteKeyword, WroteNode, WroteNodes, WroteRoot}
+use Rattle.listing.specs.Printed.{headLine, contentsText, WroteContents, WroteNode, WroteNodes, WroteRoot}
 use Rattle.listing.proofs.Texts.{wrote-none, wrote-more, wrote-as}
 use Rattle.listing.proofs.Heads.{line-tabbed}
-use Rattle.listing.proofs.Positions.{contains-first, contains-later, contains-at}
 use Rattle.listing.proofs.Walking.{Known, reached-known}
 use Rattle.listing.proofs.Numbering.{rooted, number-is}
 use mathlib.Core.Option.{Option, none, some}
-
--- keywords
-module _ {kind p r : ℕ} {o o′ : List ℕ} where
-  pub keyword-is : (low k : ℕ) → kind ≡ k → Wrote (getD nodeKinds k noKind .word) p o o′ r → WroteKeyword low kind p o o′ r
-  keyword-is low k e g = record { is = λ lo hi. wrote-as g (ap (λ (j : ℕ). getD nodeKinds j noKind .word) (sym e)) }
-
-  pub keyword-top : (kind ≡ 6 → ⊥) → (kind ≡ 7 → ⊥) → (kind ≡ 8 → ⊥) → (kind ≡ 9 → ⊥) → Wrote (ascii "top") p o o′ r → WroteKeyword 6 kind p o o′ r
-  keyword-top a b c d g = record {
-    is = λ lo hi. let e : 10 ≡ kind = omega arith in wrote-as g (ap (λ (j : ℕ). getD nodeKinds j noKind .word) e);
-  }
-
-  pub keyword-later : (kind ≡ 0 → ⊥) → (kind ≡ 1 → ⊥) → (kind ≡ 2 → ⊥) → (kind ≡ 3 → ⊥) → (kind ≡ 4 → ⊥) → (kind ≡ 5 → ⊥) → WroteKeyword 6 kind p o o′ r
-      → WroteKeyword 0 kind p o o′ r
-  keyword-later a b c d e f g = record { is = λ lo hi. g .is (omega arith) hi }
+use Rattle.laws.proofs.Containing.{contains-first, contains-later, contains-at}
 
 -- a node is renumbered alike by what agrees on its children
 module _ (f g : ℕ → ℕ) where
@@ -117,6 +106,14 @@ kind-known (Neg a) = omega arith
 kind-known Bottom = omega arith
 kind-known Top = omega arith
 
+-- the keyword of a kind
+word-of : (b : List ℕ) (n i : ℕ) {ks : List Text.Kind} → kindsIn b n ≡ ks → i < n → wordAt b i ≡ getD ks i noKind .word
+word-of b n i e lt =
+    let z : i ≡ 0 + i = omega arith in
+    ap (λ (j : ℕ). wordAt b j) z
+    ∙ ap (λ (k : Text.Kind). k .word) (sym (run-getD (kindAt b) 0 n i noKind lt))
+    ∙ ap (λ (l : List Text.Kind). getD l i noKind .word) e
+
 -- a node's line from its parts
 node-text : (k : ℕ) (n : Node) → decimal k ++ (9 ∷ []) ++ getD nodeKinds (kindOf n) noKind .word ++ contentsText n ++ (10 ∷ []) ≡ nodeText k n
 unfolding nodeText rowTexts
@@ -130,7 +127,7 @@ node-text k n =
 module _ {w work : List ℕ} {q : Pass} {ns : List Node} {x n : ℕ} (ar : Arena w q ns) (lt : x < length ns) (nb : Numbered work (suc x) (walk ns x) n) where
   known : Known ns (suc x) (walk ns x)
   unfolding walk
-  known = reached-known ns (rooted ar) (suc x) (x ∷ []) (omega arith, tt)
+  known = reached-known ns (rooted ar) (suc x) lt (x ∷ []) (omega arith, tt)
 
   node-here : (k : ℕ) → k < n → cell work (orderAt + k) ≡ getD (walk ns x) k 0
   node-here k l = let c = nb .count in holds-at (nb .nodes) k (omega arith)
@@ -143,25 +140,25 @@ module _ {w work : List ℕ} {q : Pass} {ns : List Node} {x n : ℕ} (ar : Arena
   node-numbers k l =
       let c = nb .count in
       renumber-alike (numberOf work) (λ (y : ℕ). position (eqb y) (walk ns x)) (nodeAt ns (getD (walk ns x) k 0))
-      (λ y h. number-is nb y (known .closed (getD (walk ns x) k 0) y (contains-at (walk ns x) k (omega arith)) h))
+      (λ y h. number-is nb y (steps-closed ns [] (walk ns x) (getD (walk ns x) k 0) y (known .steps) (contains-at (walk ns x) k (omega arith)) h))
 
-node-written : {arena work : List ℕ} {x kind p q₁ q₂ q₃ q₄ r : ℕ} {o o₁ o₂ o₃ o₄ o₅ : List ℕ} {q : Pass} {ns : List Node} (k : ℕ) → Wrote (decimal k) p o o₁ q₁
-    → Wrote (9 ∷ []) q₁ o₁ o₂ q₂ → Kind arena x kind → WroteKeyword 0 kind q₂ o₂ o₃ q₃ → WroteContents arena work x q₃ o₃ o₄ q₄ → Wrote (10 ∷ []) q₄ o₄ o₅ r
+node-written : {arena work b : List ℕ} {x kind p q₁ q₂ q₃ q₄ r : ℕ} {o o₁ o₂ o₃ o₄ o₅ : List ℕ} {q : Pass} {ns : List Node} (k : ℕ) → Wrote (decimal k) p o o₁ q₁
+    → Wrote (9 ∷ []) q₁ o₁ o₂ q₂ → Kind arena x kind → kindsIn b 11 ≡ nodeKinds → WroteKeyword b kind q₂ o₂ o₃ q₃ → WroteContents arena work x q₃ o₃ o₄ q₄ → Wrote (10 ∷ []) q₄ o₄ o₅ r
     → Arena arena q ns → x < length ns → Wrote (nodeText k (renumber (numberOf work) (nodeAt ns x))) p o o₅ r
-node-written {work = work} {x} {ns = ns} k a b kd c d e ar lt =
-    let s = kd .is ar lt in
-    let kw = c .is (omega arith) (let h = kind-known (nodeAt ns x) in omega arith) in
-    let word = wrote-as kw (ap (λ (j : ℕ). getD nodeKinds j noKind .word) (s ∙ kind-renumbered (numberOf work) (nodeAt ns x))) in
-    wrote-as (wrote-more (wrote-more (wrote-more (wrote-more a b) word) (d .is ar lt)) e) (node-text k (renumber (numberOf work) (nodeAt ns x)))
+node-written {work = work} {b} {x} {kind} {ns = ns} k a s kd ks c d e ar lt =
+    let z = kd .is ar lt in
+    let known : kind < 11 = let h = kind-known (nodeAt ns x) in omega arith in
+    let word = wrote-as (c .is) (word-of b 11 kind ks known ∙ ap (λ (j : ℕ). getD nodeKinds j noKind .word) (z ∙ kind-renumbered (numberOf work) (nodeAt ns x))) in
+    wrote-as (wrote-more (wrote-more (wrote-more (wrote-more a s) word) (d .is ar lt)) e) (node-text k (renumber (numberOf work) (nodeAt ns x)))
 
-pub node-line-is : {arena work : List ℕ} {k x kind p q₁ q₂ q₃ q₄ r : ℕ} {o o₁ o₂ o₃ o₄ o₅ : List ℕ} → x ≡ cell work (orderAt + k) → Wrote (decimal k) p o o₁ q₁
-    → Wrote (9 ∷ []) q₁ o₁ o₂ q₂ → Kind arena x kind → WroteKeyword 0 kind q₂ o₂ o₃ q₃ → WroteContents arena work x q₃ o₃ o₄ q₄ → Wrote (10 ∷ []) q₄ o₄ o₅ r
+pub node-line-is : {arena work b : List ℕ} {k x kind p q₁ q₂ q₃ q₄ r : ℕ} {o o₁ o₂ o₃ o₄ o₅ : List ℕ} → x ≡ cell work (orderAt + k) → Wrote (decimal k) p o o₁ q₁
+    → Wrote (9 ∷ []) q₁ o₁ o₂ q₂ → Kind arena x kind → kindsIn b 11 ≡ nodeKinds → WroteKeyword b kind q₂ o₂ o₃ q₃ → WroteContents arena work x q₃ o₃ o₄ q₄ → Wrote (10 ∷ []) q₄ o₄ o₅ r
     → WroteNode arena work k p o o₅ r
-node-line-is {work = work} {k} {x} at a b kd c d e = record {
+node-line-is {work = work} {k = k} {x} at a s kd ks c d e = record {
   is = λ {q} {ns} {x = root} {n} ar lt nb l.
       let z : x ≡ getD (walk ns root) k 0 = at ∙ node-here ar lt nb k l in
       let y = node-below ar lt nb k l in
-      wrote-as (node-written k a b kd c d e ar (omega arith))
+      wrote-as (node-written k a s kd ks c d e ar (omega arith))
       (ap (λ (j : ℕ). nodeText k (renumber (numberOf work) (nodeAt ns j))) z ∙ ap (nodeText k) (node-numbers ar lt nb k l));
 }
 
@@ -173,8 +170,8 @@ texts-more ns seen k [] x = append-nil _ ∙ ap (λ (j : ℕ). nodeText j (renum
     here k = omega arith
 texts-more ns seen k (y ∷ ys) x =
     ap (λ (l : List ℕ). nodeText k (renumber (λ (z : ℕ). position (eqb z) seen) (nodeAt ns y)) ++ l)
-      (texts-more ns seen (suc k) ys x
-      ∙ ap (λ (j : ℕ). nodeTexts ns seen (suc k) ys ++ nodeText j (renumber (λ (z : ℕ). position (eqb z) seen) (nodeAt ns x))) (next k (length ys)))
+    (texts-more ns seen (suc k) ys x
+    ∙ ap (λ (j : ℕ). nodeTexts ns seen (suc k) ys ++ nodeText j (renumber (λ (z : ℕ). position (eqb z) seen) (nodeAt ns x))) (next k (length ys)))
     ∙ sym (append-assoc (nodeText k (renumber (λ (z : ℕ). position (eqb z) seen) (nodeAt ns y))) (nodeTexts ns seen (suc k) ys) _)
   where
     next : (k n : ℕ) → suc k + n ≡ k + suc n
@@ -211,7 +208,7 @@ module _ {arena work : List ℕ} {n p q k : ℕ} {o o₁ : List ℕ} (l : NodesW
         let c = nb .count in wrote-as (l .so ar b nb) (ap (nodeTexts ns (walk ns x) 0) (take-all k (walk ns x) (omega arith)));
   }
 
-pub root-lines-is : {arena work work₁ : List ℕ} {id sign n p q r : ℕ} {s : Head} {o o₁ o₂ : List ℕ} → Walks arena work (s .node) work₁ n
+pub root-lines-is : {arena work work₁ : List ℕ} {id sign n p q r : ℕ} {s : Shown} {o o₁ o₂ : List ℕ} → Walks arena work (s .node) work₁ n
     → Wrote (headLine id sign s n) p o o₁ q
     → WroteNodes arena work₁ n q o₁ o₂ r → WroteRoot arena work id sign s p o o₂ r
 root-lines-is {id = id} {sign} {s = s} v a b = record {

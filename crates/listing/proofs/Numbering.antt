@@ -19,26 +19,28 @@ use Rattle.rules.specs.Ceilings.{mostNodes}
 use Rattle.rules.specs.Plain.{contains, position}
 use Rattle.rules.specs.Types.{Node, children, nodeAt}
 use Rattle.rules.specs.Listing.{walkBy, walk}
-use Rattle.laws.proofs.Storing.{true-false, Rooted}
-use Rattle.laws.proofs.Filtering.{under-at, under-both, under-most}
-use Rattle.laws.proofs.Rooting.{under-front}
+use Rattle.laws.proofs.Storing.{Rooted}
+use Rattle.laws.proofs.Walking.{steps-few}
+use Rattle.laws.proofs.Filtering.{under-at, under-both, under-most, under-front}
+use Rattle.laws.proofs.Containing.{last-itself, last-other, contains-at}
 use Rattle.lang_ty.specs.declared.arena.Pass.{Pass}
 use Rattle.lang_ty.specs.Nodes.{Arena}
 use Rattle.lang_ty.specs.Orders.{Children, ChildAt}
 use Rattle.listing.specs.Walks.{orderAt, numberOf, Numbered, reached, Visits, Walks}
-use Rattle.listing.proofs.Positions.{position-below, position-is, contains-at}
-use Rattle.listing.proofs.Walking.{last-or, last-same, Known, known-few, reached-known, kids-news, visit-seen, visit-new}
+use Rattle.listing.proofs.Positions.{position-below, position-is}
+use Rattle.listing.proofs.Walking.{Known, reached-known, kids-news, visit-seen, visit-new}
 use Rattle.cells.specs.Placed.{Under}
+use Rattle.cells.proofs.Choices.{true-false}
 
 pub rooted : {w : List ℕ} {q : Pass} {ns : List Node} → Arena w q ns → Rooted ns
 rooted a = record { is = a .below }
 
 -- one node more
 module _ {ns : List Node} {work work₁ work₂ seen : List ℕ} {top n n′ p x : ℕ} (a : Numbered work top seen n) (kn : Known ns top seen) (lt : x < top)
-    (few : top ≤ mostNodes) (room : workLength ≤ length work) (new : contains seen x ≡ false) (at : p ≡ orderAt + n) (s : Sum n 1 n′)
+    (few : top ≤ mostNodes) (many : length ns ≤ mostNodes) (room : workLength ≤ length work) (new : contains seen x ≡ false) (at : p ≡ orderAt + n) (s : Sum n 1 n′)
     (e₁ : work₁ ≡ set work p x) (e₂ : work₂ ≡ set work₁ x n′) where
   next : n′ ≡ suc (length seen)
-  next = let f = known-few kn in let c = a .count in let e : n′ ≡ n + 1 = s .is (omega arith) in omega arith
+  next = let f = steps-few ns seen (kn .steps) in let c = a .count in let e : n′ ≡ n + 1 = s .is (omega arith) in omega arith
 
   place : p ≡ orderAt + length seen
   place = let c = a .count in omega arith
@@ -54,7 +56,7 @@ module _ {ns : List Node} {work work₁ work₂ seen : List ℕ} {top n n′ p x
 
   cell-p : cell work₂ p ≡ x
   cell-p =
-      let f = known-few kn in
+      let f = steps-few ns seen (kn .steps) in
       let h = place in
       ap (λ (w : List ℕ). cell w p) e₂
       ∙ getD-set-other work₁ x p n′ 0 (λ e. omega arith)
@@ -67,7 +69,7 @@ module _ {ns : List Node} {work work₁ work₂ seen : List ℕ} {top n n′ p x
   by-place P f g k l =
       ⊎-elim
       (λ (e : k ≡ length seen).
-          subst (λ (j : ℕ). P j (getD (seen ++ (x ∷ [])) j 0)) (sym e) (subst (P (length seen)) (sym (getD-at seen x [] 0 (length seen) refl)) g))
+      subst (λ (j : ℕ). P j (getD (seen ++ (x ∷ [])) j 0)) (sym e) (subst (P (length seen)) (sym (getD-at seen x [] 0 (length seen) refl)) g))
       (λ (h : k < length seen). subst (P k) (sym (List·getD-append seen (x ∷ []) 0 k h)) (f k h))
       (eq-or-lt-of-le {n = k} {m = length seen} (omega (arith, length-append seen (x ∷ []))))
 
@@ -84,13 +86,10 @@ module _ {ns : List Node} {work work₁ work₂ seen : List ℕ} {top n n′ p x
   other-cell : (y : ℕ) → y < top → contains (seen ++ (x ∷ [])) y ≡ false → cell work₂ y ≡ 0
   other-cell y l c =
       let h = place in
-      ⊎-elim
-      (λ (e : y ≡ x). true-false (sym (last-same x y seen e) ∙ c))
-      (λ (e : contains (seen ++ (x ∷ [])) y ≡ contains seen y).
-          cell-other y (λ f. true-false (sym (last-same x y seen f) ∙ c)) (λ f. omega arith) ∙ a .others y l (sym e ∙ c))
-      (last-or x y seen)
+      let n : y ≡ x → ⊥ = λ e. true-false (sym (ap (contains (seen ++ (x ∷ []))) e ∙ last-itself x seen) ∙ c) in
+      cell-other y n (λ f. omega arith) ∙ a .others y l (sym (last-other x y n seen) ∙ c)
 
-  pub numbered-more : Numbered work₂ top (seen ++ (x ∷ [])) n′
+  numbered-more : Numbered work₂ top (seen ++ (x ∷ [])) n′
   numbered-more = record {
     count = let h = next in omega (arith, length-append seen (x ∷ []));
     nodes = holds-from work₂ orderAt (seen ++ (x ∷ [])) (by-place (λ k y. cell work₂ (orderAt + k) ≡ y) node-cell (ap (cell work₂) (sym place) ∙ cell-p));
@@ -161,9 +160,9 @@ module _ {arena work₀ work : List ℕ} {x k n next i c : ℕ} (v : Visiting ar
     kids-more xs =
         append-assoc xs (take i (children (nodeAt ns x))) (c ∷ [])
         ∙ ap (λ (l : List ℕ). xs ++ l)
-          (ap (λ (y : ℕ). take i (children (nodeAt ns x)) ++ (y ∷ [])) kid-is
-          ∙ sym (take-suc (children (nodeAt ns x)) i 0 kid-few)
-          ∙ ap (λ (j : ℕ). take j (children (nodeAt ns x))) (sym (add-one i)))
+        (ap (λ (y : ℕ). take i (children (nodeAt ns x)) ++ (y ∷ [])) kid-is
+        ∙ sym (take-suc (children (nodeAt ns x)) i 0 kid-few)
+        ∙ ap (λ (j : ℕ). take j (children (nodeAt ns x))) (sym (add-one i)))
 
     kids-under : (xs : List ℕ) → Under top xs → Under top (xs ++ take i (children (nodeAt ns x)))
     kids-under xs u =
@@ -217,7 +216,7 @@ module _ {arena work₀ work work₁ work₂ : List ℕ} {x k n next next′ i p
     known : Known ns top (foldl (walkBy top ns) (reached ns top xs) (children (nodeAt ns x)))
     known =
         subst (Known ns top) (foldl-append (walkBy top ns) [] xs (children (nodeAt ns x)))
-        (reached-known ns (rooted ar) top (xs ++ children (nodeAt ns x))
+        (reached-known ns (rooted ar) top few (xs ++ children (nodeAt ns x))
         (under-both top xs (children (nodeAt ns x)) u (under-most x top (children (nodeAt ns x)) (omega arith) (ar .below x (omega arith)))))
 
     whole : Numbered work₂ top (reached ns top (xs ++ (x ∷ []))) next′
@@ -226,9 +225,9 @@ module _ {arena work₀ work work₁ work₂ : List ℕ} {x k n next next′ i p
         let c = ar .count in
         let m = v .same in
         subst (λ (l : List ℕ). Numbered work₂ top l next′)
-        (sym (foldl-append (walkBy top ns) [] xs (x ∷ []) ∙ visit-new ns (rooted ar) top (reached ns top xs) x below fresh))
-        (numbered-more as-kids known below (omega arith) (omega arith)
-        (kids-news ns (rooted ar) top (reached ns top xs) x below (reached-known ns (rooted ar) top xs u) fresh) at s e₁ e₂)
+        (sym (foldl-append (walkBy top ns) [] xs (x ∷ []) ∙ visit-new ns (rooted ar) top few (reached ns top xs) x below fresh))
+        (numbered-more as-kids known below (omega arith) (omega arith) (omega arith)
+        (kids-news ns (rooted ar) top few (reached ns top xs) x below (reached-known ns (rooted ar) top few xs u) fresh) at s e₁ e₂)
 
   pub visiting-done : Visits arena work₀ x k work₂ next′
   visiting-done = record { is = λ xs ar room few u below a. whole xs ar room few u below a }

@@ -1,17 +1,16 @@
 -- What a list of numbers contains, and where it stands. Assumes nothing.
 use mathlib.Core.Path.{_≡_, refl, sym, ap, _∙_}
 use mathlib.Core.Bool.{Bool, true, false}
-use Prim.Native.Nat.{ℕ, zero, suc, _+_, _-_, _≤_, _<_}
+use Prim.Native.Nat.{ℕ, suc, _+_, _-_, _≤_, _<_}
 use native.Mathlib.Omega.{arith}
-use native.Mathlib.Nat.{not-suc-le-zero}
 use mathlib.Core.List.{List, [], _∷_}
 use mathlib.Core.Option.{some, Option·getD}
 use lib.ListN.{length, getD}
 use lib.Dec.{eqb}
-use borrow.Author.Tests.{eqb-true, eq-eqb}
+use borrow.Author.Tests.{eqb-true}
 use Rattle.cells.specs.Part.{if}
+use Rattle.cells.proofs.Choices.{true-false}
 use Rattle.rules.specs.Plain.{contains, find, position}
-use Rattle.laws.proofs.Storing.{true-false}
 
 -- the number at the place that the search for x, begun at i, tells
 pub record Stood (i x : ℕ) (xs : List ℕ) (p : ℕ) : Type 0 where
@@ -46,18 +45,3 @@ position-below x xs h = let w = stood x (length xs) 0 xs h .within in omega arit
 pub position-is : (x : ℕ) (xs : List ℕ) → contains xs x ≡ true → getD xs (position (eqb x) xs) 0 ≡ x
 position-is x xs h =
     let z : position (eqb x) xs ≡ position (eqb x) xs - 0 = omega arith in ap (λ (k : ℕ). getD xs k 0) z ∙ stood x (length xs) 0 xs h .is
-
-pub contains-first : (x : ℕ) (xs : List ℕ) → contains (x ∷ xs) x ≡ true
-contains-first x xs = ap (λ (b : Bool). if b (λ _. true) (λ _. contains xs x)) (eq-eqb x x refl)
-
-pub contains-later : (x y : ℕ) (xs : List ℕ) → contains xs y ≡ true → contains (x ∷ xs) y ≡ true
-contains-later x y xs h = ap (λ (b : Bool). if (eqb y x) (λ _. true) (λ _. b)) h ∙ anyway (eqb y x)
-  where
-    anyway : (b : Bool) → if b (λ _. true) (λ _. true) ≡ true
-    anyway true = refl
-    anyway false = refl
-
-pub contains-at : (xs : List ℕ) (k : ℕ) → k < length xs → contains xs (getD xs k 0) ≡ true
-contains-at [] k h = absurd (not-suc-le-zero h)
-contains-at (y ∷ ys) zero h = contains-first y ys
-contains-at (y ∷ ys) (suc k) h = contains-later y (getD ys k 0) ys (contains-at ys k (omega arith))

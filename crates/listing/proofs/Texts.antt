@@ -1,19 +1,18 @@
 -- Laws of `over`, and of what was written piece after piece. Assumes nothing.
 use mathlib.Core.Bool.{Bool}
 use mathlib.Core.Path.{_≡_, refl, sym, ap, subst, _∙_}
-use Prim.Native.Nat.{ℕ, zero, suc, _+_, _-_, _/_, _%_, _≤_, _<_}
+use Prim.Native.Nat.{ℕ, zero, suc, _+_, _-_, _*_, _/_, _%_, _≤_, _<_}
 use native.Mathlib.Omega.{arith}
-use native.Mathlib.Nat.{eq-or-lt-of-le}
-use mathlib.Core.Logic.{⊎-elim}
 use mathlib.Core.List.{List, [], _∷_, _++_}
 use lib.ListN.{length, set, length-append}
 use borrow.Author.Tests.{lt-ltb, le-ltb, eq-eqb, ne-eqb}
-use Rattle.cells.specs.Part.{if, cell}
-use Rattle.cells.specs.Sum.{Sum}
+use Rattle.cells.specs.Part.{if, cell, part}
 use Rattle.rules.specs.Text.{tab, decimalBy, decimal, fieldText, aSign}
-use Rattle.text.specs.Reads.{span}
-use Rattle.text.proofs.Spans.{span-none, span-snoc, span-whole}
-use Rattle.listing.specs.Writes.{over, Wrote}
+use Rattle.cells.proofs.Parts.{run-at, run-snoc}
+use Rattle.text.specs.Keywords.{Byte}
+use Rattle.text.proofs.Spans.{span-whole}
+use Rattle.listing.specs.Writes.{over, Wrote, WroteKeyword}
+use Rattle.laws.proofs.OldListing.{decimal-steps}
 
 over-at : (o : List ℕ) (t : List ℕ) (p q : ℕ) → p ≡ q → over o p t ≡ over o q t
 over-at o t p q e = ap (λ (k : ℕ). over o k t) e
@@ -46,10 +45,6 @@ module _ {t u : List ℕ} {p q r : ℕ} {o o₁ o₂ : List ℕ} (a : Wrote t p 
 pub wrote-as : {t u : List ℕ} {p r : ℕ} {o o′ : List ℕ} → Wrote t p o o′ r → t ≡ u → Wrote u p o o′ r
 wrote-as {t} {u} {p} {r} {o} {o′} a e = subst (λ (l : List ℕ). Wrote l p o o′ r) e a
 
--- one byte
-pub wrote-byte : {p r b : ℕ} {o o′ : List ℕ} → o′ ≡ set o p b → Sum p 1 r → Wrote (b ∷ []) p o o′ r
-wrote-byte e f = record { to = λ h. f .is h; is = λ _. e }
-
 -- decimals: how many digits are allowed for does not matter
 less : (f n : ℕ) → n < 10 → decimalBy f n ≡ (48 + n) ∷ []
 less zero n h = refl
@@ -60,27 +55,15 @@ more : (f n : ℕ) → 10 ≤ n → decimalBy (suc f) n ≡ decimalBy f (n / 10)
 more f n h =
     ap (λ (b : Bool). if b (λ _. (48 + n) ∷ []) (λ _. decimalBy f (n / 10) ++ ((48 + n % 10) ∷ []))) (le-ltb n 10 h)
 
-alike : (f g n : ℕ) → n ≤ f → n ≤ g → decimalBy f n ≡ decimalBy g n
-alike zero g n h k = sym (less g n (omega arith))
-alike (suc f) zero n h k = less (suc f) n (omega arith)
-alike (suc f) (suc g) n h k =
-    ⊎-elim
-    (λ e. less (suc f) n (omega arith) ∙ sym (less (suc g) n (omega arith)))
-    (λ l.
-        more f n (omega arith)
-        ∙ ap (λ (x : List ℕ). x ++ ((48 + n % 10) ∷ [])) (alike f g (n / 10) (omega arith) (omega arith))
-        ∙ sym (more g n (omega arith)))
-    (eq-or-lt-of-le {n = 0} {m = n / 10} (omega arith))
-
 pub decimal-less : {n : ℕ} → n < 10 → (48 + n) ∷ [] ≡ decimal n
 unfolding decimal
 decimal-less {n} h = sym (less n n h)
 
-pub decimal-more : {n : ℕ} → 10 ≤ n → decimal (n / 10) ++ ((48 + n % 10) ∷ []) ≡ decimal n
+decimal-more : {n : ℕ} → 10 ≤ n → decimal (n / 10) ++ ((48 + n % 10) ∷ []) ≡ decimal n
 unfolding decimal
 decimal-more {n} h =
     let e : n ≡ suc (n - 1) = omega arith in
-    ap (λ (x : List ℕ). x ++ ((48 + n % 10) ∷ [])) (alike (n / 10) (n - 1) (n / 10) (omega arith) (omega arith))
+    ap (λ (x : List ℕ). x ++ ((48 + n % 10) ∷ [])) (decimal-steps (n / 10) (n - 1) (n / 10) (omega arith) (omega arith))
     ∙ sym (more (n - 1) n h)
     ∙ ap (λ (f : ℕ). decimalBy f n) (sym e)
 
@@ -104,24 +87,30 @@ pub sign-minus : {s p q r : ℕ} {o o₁ o₂ : List ℕ} → (s ≡ 0 → ⊥) 
 unfolding fieldText
 sign-minus {s} h a b = wrote-as (wrote-more a b) (simp (ne-eqb s 0 h))
 
--- the first i bytes of w are written
-pub record Wording (w : List ℕ) (p : ℕ) (o o′ : List ℕ) (r i : ℕ) : Type 0 where
-  pub few : i ≤ length w
+-- of the n bytes of w from a on, the first k are written
+pub record Wording (w : List ℕ) (a n p : ℕ) (o o′ : List ℕ) (r k : ℕ) : Type 0 where
+  pub few : k ≤ n
   pub kept : length o′ ≡ length o
-  pub so : Wrote (span w 0 i) p o o′ r
+  pub so : Wrote (part w a k) p o o′ r
 
-pub wording-start : {w : List ℕ} {p : ℕ} {o : List ℕ} → Wording w p o o p 0
-wording-start {w} {p} {o} = record { few = omega arith; kept = refl; so = wrote-as (wrote-none p o) (sym (span-none w 0 0 (omega arith))) }
+pub wording-start : {w : List ℕ} {a n p : ℕ} {o : List ℕ} → Wording w a n p o o p 0
+wording-start {w} {a} {n} {p} {o} = record { few = omega arith; kept = refl; so = wrote-none p o }
 
-pub wording-more : {w : List ℕ} {p q r i : ℕ} {o o₁ o₂ : List ℕ} → Wording w p o o₁ q i → i < length w → length o₂ ≡ length o₁
-    → Wrote (cell w i ∷ []) q o₁ o₂ r → Wording w p o o₂ r (i + 1)
-wording-more {w} {p} {q} {r} {i} {o} {o₁} {o₂} a h k b = record {
-  few = omega arith;
-  kept = k ∙ a .kept;
-  so = wrote-as (wrote-more (a .so) b) (sym (span-snoc w 0 i (omega arith)));
-}
+module _ {w : List ℕ} {a n p q k : ℕ} {o o₁ : List ℕ} (l : Wording w a n p o o₁ q k) where
+  pub wording-more : {x r : ℕ} {o₂ : List ℕ} → k < n → length o₂ ≡ length o₁ → Byte w (a + k) x → Wrote (x ∷ []) q o₁ o₂ r → Wording w a n p o o₂ r (k + 1)
+  wording-more {x} h e y b = record {
+    few = omega arith;
+    kept = e ∙ l .kept;
+    so =
+        wrote-as (wrote-more (l .so) b)
+        (ap (λ (z : ℕ). part w a k ++ (z ∷ [])) (y .is) ∙ sym (run-snoc (cell w) a k) ∙ run-at (cell w) a a (suc k) (k + 1) refl (omega arith));
+  }
 
-pub wording-done : {w : List ℕ} {p r i : ℕ} {o o′ : List ℕ} → Wording w p o o′ r i → length w ≤ i → Wrote w p o o′ r
-wording-done {w} {p} {r} {i} {o} {o′} a h =
-    let e : i ≡ length w = omega (arith, a .few) in
-    wrote-as (a .so) (ap (λ (k : ℕ). span w 0 k) e ∙ span-whole w)
+  pub wording-done : n ≤ k → Wrote (part w a n) p o o₁ q
+  wording-done h = let f = l .few in let e : k ≡ n = omega arith in wrote-as (l .so) (ap (part w a) e)
+
+pub word-is : {w : List ℕ} {p r : ℕ} {o o′ : List ℕ} → Wrote (part w 0 (length w)) p o o′ r → Wrote w p o o′ r
+word-is {w} h = wrote-as h (run-at (cell w) 0 0 (length w) (length w - 0) refl (omega arith) ∙ span-whole w)
+
+pub keyword-is : {b : List ℕ} {i n p r : ℕ} {o o′ : List ℕ} → Byte b (17 * i) n → Wrote (part b (17 * i + 1) n) p o o′ r → WroteKeyword b i p o o′ r
+keyword-is {b} {i} y h = record { is = wrote-as h (ap (part b (17 * i + 1)) (y .is)) }

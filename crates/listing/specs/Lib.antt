@@ -1,4 +1,3 @@
 pub mod Writes
 pub mod Walks
 pub mod Printed
-pub mod Olds

@@ -9,12 +9,12 @@ use Rattle.rules.specs.Plain.{flag, position}
 use Rattle.rules.specs.Text.{tab, comma, decimal, listText, keyedText, shapeTexts, noKind}
 use Rattle.rules.specs.Table.{Attr}
 use Rattle.rules.specs.Types.{Node, AttrSet, nodeKinds, encode, kindOf, fieldWords, nodeAt}
-use Rattle.rules.specs.Canonicalizer.{Shown, shown}
+use Rattle.rules.specs.Canonicalizer.{shown}
 use Rattle.rules.specs.Listing.{headText, walk, renumber, renumberField, nodeText, nodeTexts, answerText}
 use Rattle.lang_ty.specs.declared.arena.Pass.{Pass}
-use Rattle.lang_ty.specs.Nodes.{Arena}
+use Rattle.lang_ty.specs.declared.arena.Shown.{Shown}
+use Rattle.lang_ty.specs.Nodes.{Arena, shownOf}
 use Rattle.lang_ty.specs.Sets.{SetAt}
-use Rattle.listing.specs.declared.lines.Head.{Head}
 use Rattle.listing.specs.Writes.{Wrote}
 use Rattle.listing.specs.Walks.{numberOf, Numbered}
 
@@ -24,11 +24,11 @@ tabbed [] = []
 tabbed (f ∷ fs) = tab ∷ (f ++ tabbed fs)
 
 -- the fields of a root's line behind its sign
-abbrev pub countTexts : Head → ℕ → List (List ℕ)
+abbrev pub countTexts : Shown → ℕ → List (List ℕ)
 countTexts s n = decimal (s .passes) ∷ decimal (s .ops) ∷ decimal (flag (s .sorted)) ∷ decimal (flag (s .bailed)) ∷ decimal n ∷ []
 
 -- the line of a root with n nodes
-abbrev pub headLine : ℕ → ℕ → Head → ℕ → List ℕ
+abbrev pub headLine : ℕ → ℕ → Shown → ℕ → List ℕ
 headLine id sign s n = headText (1 ∷ id ∷ sign ∷ s .passes ∷ s .ops ∷ flag (s .sorted) ∷ flag (s .bailed) ∷ n ∷ [])
 
 -- what stands before element i of a list
@@ -57,10 +57,6 @@ pub record WroteSet (w work : List ℕ) (a p : ℕ) (o o′ : List ℕ) (r : ℕ
 pub record WroteContents (arena work : List ℕ) (x p : ℕ) (o o′ : List ℕ) (r : ℕ) : Type 0 where
   pub is : {q : Pass} {ns : List Node} → Arena arena q ns → x < length ns → Wrote (contentsText (renumber (numberOf work) (nodeAt ns x))) p o o′ r
 
--- the keyword of a kind from low on
-pub record WroteKeyword (low kind p : ℕ) (o o′ : List ℕ) (r : ℕ) : Type 0 where
-  pub is : low ≤ kind → kind < length nodeKinds → Wrote (getD nodeKinds kind noKind .word) p o o′ r
-
 -- the line of node k of a listing whose nodes were numbered from x on
 pub record WroteNode (arena work : List ℕ) (k p : ℕ) (o o′ : List ℕ) (r : ℕ) : Type 0 where
   pub is : {q : Pass} {ns : List Node} {x n : ℕ} → Arena arena q ns → x < length ns → Numbered work (suc x) (walk ns x) n → k < n
@@ -70,11 +66,7 @@ pub record WroteNodes (arena work : List ℕ) (n p : ℕ) (o o′ : List ℕ) (r
   pub is : {q : Pass} {ns : List Node} {x : ℕ} → Arena arena q ns → x < length ns → Numbered work (suc x) (walk ns x) n
       → Wrote (nodeTexts ns (walk ns x) 0 (walk ns x)) p o o′ r
 
--- what a head and the nodes of a pass show
-abbrev pub shownOf : Head → List Node → Shown
-shownOf s ns = record { passes = s .passes; operations = s .ops; sorted = s .sorted; bailed = s .bailed; nodes = ns; root = s .node }
-
 -- the lines of a root that is not refused
-pub record WroteRoot (arena work : List ℕ) (id sign : ℕ) (s : Head) (p : ℕ) (o o′ : List ℕ) (r : ℕ) : Type 0 where
+pub record WroteRoot (arena work : List ℕ) (id sign : ℕ) (s : Shown) (p : ℕ) (o o′ : List ℕ) (r : ℕ) : Type 0 where
   pub is : {q : Pass} {ns : List Node} → Arena arena q ns → s .node < length ns → workLength ≤ length work
       → Wrote (answerText id sign (shown (shownOf s ns))) p o o′ r

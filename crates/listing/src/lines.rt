@@ -1,17 +1,21 @@
 // The lines of a listing.
-use cells::add;
-use cells::get;
-use cells::place;
 use crate::walk;
 use crate::write::byte;
 use crate::write::decimal;
+use crate::write::keyword;
 use crate::write::number_field;
 use crate::write::sign_field;
 use crate::write::word;
-use lang_ty::arena::OutputTy;
+use cells::add;
+use cells::get;
+use cells::place;
 use lang_ty::arena;
+use lang_ty::arena::OutputTy;
+use lang_ty::arena::Shown;
 use lang_ty::attrset;
 use lang_ty::disjoint::set_place;
+use text::kinds::HEADS;
+use text::kinds::NODES;
 ghost use mathlib.Core.Path.{_≡_};
 ghost use mathlib.Core.List.{[], _∷_};
 ghost use Rattle.rules.specs.Plain.{ascii, flag};
@@ -20,22 +24,13 @@ ghost use Rattle.rules.specs.Canonicalizer.{refusedWith};
 ghost use Rattle.rules.specs.Listing.{answersText, answerText};
 ghost use Rattle.listing.specs.Writes.{Wrote};
 ghost use Rattle.listing.specs.Printed.{tabbed, countTexts, headLine, partedBy, numbered, WroteList, WroteFields, WroteSet, WroteContents};
-ghost use Rattle.listing.specs.Printed.{WroteKeyword, WroteNode, WroteNodes, WroteRoot};
-
-// What a root's line says, and the root's node.
-pub struct Head {
-    pub passes: u32,
-    pub ops: u32,
-    pub sorted: bool,
-    pub bailed: bool,
-    pub node: u32,
-}
+ghost use Rattle.listing.specs.Printed.{WroteNode, WroteNodes, WroteRoot};
 
 // `answers`, root count.
 pub fn answers(out: &mut [u8], at: u32, roots: u32) -> u32
     ensures { λ r. ⌜ Wrote (answersText roots) at (now (out .entry)) (now (out .exit)) r ⌝ }
 {
-    let p = word(out, at, b"answers");
+    let p = keyword(out, at, &HEADS, 0);
     let p = number_field(out, p, roots);
     byte(out, p, 10)
 }
@@ -44,7 +39,7 @@ pub fn answers(out: &mut [u8], at: u32, roots: u32) -> u32
 pub fn refused_call(out: &mut [u8], at: u32, number: u32, line: u32) -> u32
     ensures { λ r. ⌜ Wrote (lineText (ascii "refused" ∷ decimal number ∷ decimal line ∷ [])) at (now (out .entry)) (now (out .exit)) r ⌝ }
 {
-    let p = word(out, at, b"refused");
+    let p = keyword(out, at, &HEADS, 2);
     let p = number_field(out, p, number);
     let p = number_field(out, p, line);
     byte(out, p, 10)
@@ -54,7 +49,7 @@ pub fn refused_call(out: &mut [u8], at: u32, number: u32, line: u32) -> u32
 pub fn refused_root(out: &mut [u8], at: u32, id: u32, sign: u32, number: u32) -> u32
     ensures { λ r. ⌜ Wrote (answerText id sign (refusedWith number)) at (now (out .entry)) (now (out .exit)) r ⌝ }
 {
-    let p = word(out, at, b"refused");
+    let p = keyword(out, at, &HEADS, 2);
     let p = number_field(out, p, id);
     let p = sign_field(out, p, sign);
     let p = number_field(out, p, number);
@@ -68,7 +63,7 @@ fn flag(b: bool) -> u32
 }
 
 // Passes, operations, sorted, bailed, node count.
-fn counts(out: &mut [u8], at: u32, s: Head, n: u32) -> u32
+fn counts(out: &mut [u8], at: u32, s: Shown, n: u32) -> u32
     ensures { λ r. ⌜ Wrote (tabbed (countTexts s n)) at (now (out .entry)) (now (out .exit)) r ⌝ }
 {
     let p = number_field(out, at, s.passes);
@@ -79,10 +74,10 @@ fn counts(out: &mut [u8], at: u32, s: Head, n: u32) -> u32
 }
 
 // `root`, id, sign, and the counts.
-fn root_line(out: &mut [u8], at: u32, id: u32, sign: u32, s: Head, n: u32) -> u32
+fn root_line(out: &mut [u8], at: u32, id: u32, sign: u32, s: Shown, n: u32) -> u32
     ensures { λ r. ⌜ Wrote (headLine id sign s n) at (now (out .entry)) (now (out .exit)) r ⌝ }
 {
-    let p = word(out, at, b"root");
+    let p = keyword(out, at, &HEADS, 1);
     let p = number_field(out, p, id);
     let p = sign_field(out, p, sign);
     let p = counts(out, p, s, n);
@@ -218,49 +213,6 @@ fn contents(out: &mut [u8], arena: &[u32], work: &[u32], at: u32, x: u32) -> u32
     at
 }
 
-// The keyword of a kind from 6 on.
-fn keyword_from_6(out: &mut [u8], at: u32, kind: u32) -> u32
-    ensures { λ r. ⌜ WroteKeyword 6 kind at (now (out .entry)) (now (out .exit)) r ⌝ }
-{
-    if kind == OutputTy::INTERSECTION {
-        return word(out, at, b"inter");
-    }
-    if kind == OutputTy::NAMED {
-        return word(out, at, b"named");
-    }
-    if kind == OutputTy::NEG {
-        return word(out, at, b"neg");
-    }
-    if kind == OutputTy::BOTTOM {
-        return word(out, at, b"bottom");
-    }
-    word(out, at, b"top")
-}
-
-fn keyword(out: &mut [u8], at: u32, kind: u32) -> u32
-    ensures { λ r. ⌜ WroteKeyword 0 kind at (now (out .entry)) (now (out .exit)) r ⌝ }
-{
-    if kind == OutputTy::TY_VAR {
-        return word(out, at, b"tyvar");
-    }
-    if kind == OutputTy::PRIMITIVE {
-        return word(out, at, b"prim");
-    }
-    if kind == OutputTy::LIST {
-        return word(out, at, b"list");
-    }
-    if kind == OutputTy::LAMBDA {
-        return word(out, at, b"fn");
-    }
-    if kind == OutputTy::ATTR_SET {
-        return word(out, at, b"set");
-    }
-    if kind == OutputTy::UNION {
-        return word(out, at, b"union");
-    }
-    keyword_from_6(out, at, kind)
-}
-
 // The line of node k of the listing: number, kind, contents.
 fn node_line(out: &mut [u8], arena: &[u32], work: &[u32], at: u32, k: u32) -> u32
     ensures { λ r. ⌜ WroteNode (now (arena .entry)) (now (work .entry)) k at (now (out .entry)) (now (out .exit)) r ⌝ }
@@ -268,7 +220,7 @@ fn node_line(out: &mut [u8], arena: &[u32], work: &[u32], at: u32, k: u32) -> u3
     let x = walk::node(work, k);
     let p = decimal(out, at, k);
     let p = byte(out, p, 9);
-    let p = keyword(out, p, arena::kind(arena, x));
+    let p = keyword(out, p, &NODES, arena::kind(arena, x));
     let p = contents(out, arena, work, p, x);
     byte(out, p, 10)
 }
@@ -293,7 +245,7 @@ pub fn root_lines(
     at: u32,
     id: u32,
     sign: u32,
-    s: Head,
+    s: Shown,
 ) -> u32
     ensures { λ r. ⌜ WroteRoot (now (arena .entry)) (now (work .entry)) id sign s at (now (out .entry)) (now (out .exit)) r ⌝ }
 {

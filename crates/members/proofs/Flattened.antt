@@ -14,29 +14,22 @@ use borrow.Author.Tests.{le-ltb, lt-ltb}
 use Rattle.cells.specs.Part.{cell, part, if}
 use Rattle.rules.specs.Ceilings.{mostMembers}
 use Rattle.rules.specs.Plain.{any, contains, addNew, both}
-use Rattle.rules.specs.Types.{Node, TyVar, Primitive, ListOf, Lambda, AttrSet, Union, Intersection, Named, Neg, Bottom, Top, members, children, nodeAt, is}
+use Rattle.rules.specs.Types.{Node, is}
 use Rattle.rules.specs.Members.{membersAt, addAll, flattenOne, flattenInto, flatten-composite}
 use Rattle.lang_ty.specs.declared.arena.Pass.{Pass}
 use Rattle.lang_ty.specs.Nodes.{Arena, Is, Count, Member}
 use Rattle.members.specs.declared.lists.Members.{Members}
-use Rattle.members.specs.Lists.{Few, Lists, Taken, Tests, Contains, anyOfKind}
+use Rattle.members.specs.Lists.{Few, Lists, Taken, Tests, Contains, anyOfKind, firstOf}
 use Rattle.members.specs.Flattens.{Collected, AddsNew, AddsMembers, FlattensOne, Listing, Spreads, flattenAll}
-use Rattle.laws.proofs.Filtering.{under-both, under-most}
-use Rattle.members.proofs.Gathered.{listOf, few-lists, few-at, few-below, gathered-more, gathered-few}
+use Rattle.laws.proofs.Filtering.{under-added}
+use Rattle.laws.proofs.Rooting.{members-below}
+use Rattle.members.proofs.Gathered.{few-lists, few-at, few-below, gathered-more, gathered-few}
 use Rattle.cells.specs.Placed.{Under}
 
 -- laws of collecting
 new-length : (b : Bool) (xs : List ℕ) (x : ℕ) → length xs ≤ length (if b (λ _. xs) (λ _. xs ++ (x ∷ [])))
 new-length true xs x = omega arith
 new-length false xs x = omega (arith, length-append xs (x ∷ []))
-
-new-under : (b : Bool) (k : ℕ) (xs : List ℕ) (x : ℕ) → Under k xs → x < k → Under k (if b (λ _. xs) (λ _. xs ++ (x ∷ [])))
-new-under true k xs x h lt = h
-new-under false k xs x h lt = under-both k xs (x ∷ []) h (lt, tt)
-
-all-under : (k : ℕ) (got xs : List ℕ) → Under k got → Under k xs → Under k (addAll got xs)
-all-under k got [] g h = g
-all-under k got (x ∷ xs) g h = all-under k (addNew got x) xs (new-under (contains got x) k got x g (h .0)) (h .1)
 
 all-snoc : (got xs : List ℕ) (y : ℕ) → addAll got (xs ++ (y ∷ [])) ≡ addNew (addAll got xs) y
 all-snoc got [] y = refl
@@ -46,28 +39,12 @@ into-snoc : (k : ℕ) (ns : List Node) (got xs : List ℕ) (y : ℕ) → flatten
 into-snoc k ns got [] y = refl
 into-snoc k ns got (x ∷ xs) y = into-snoc k ns (flattenOne k ns got x) xs y
 
-members-under : (k : ℕ) (n : Node) → Under k (children n) → Under k (members n)
-members-under k (TyVar x) h = tt
-members-under k (Primitive c) h = tt
-members-under k (ListOf a) h = tt
-members-under k (Lambda a b) h = tt
-members-under k (AttrSet t) h = tt
-members-under k (Union ms) h = h
-members-under k (Intersection ms) h = h
-members-under k (Named n a) h = tt
-members-under k (Neg a) h = tt
-members-under k Bottom h = tt
-members-under k Top h = tt
-
--- the members of a node are nodes
-pub member-nodes : {w : List ℕ} {q : Pass} {ns : List Node} → Arena w q ns → (x : ℕ) → x < length ns → Under (length ns) (membersAt ns x)
-member-nodes {ns = ns} h x lt = under-most x (length ns) (membersAt ns x) (omega arith) (members-under x (nodeAt ns x) (h .below x lt))
-
+-- what is collected are nodes
 module _ {w : List ℕ} {q : Pass} {ns : List Node} (h : Arena w q ns) (kind : ℕ) where
   one-under : (b : Bool) (got : List ℕ) (x : ℕ) → x < length ns → Under (length ns) got
       → Under (length ns) (if b (λ _. addAll got (membersAt ns x)) (λ _. addNew got x))
-  one-under true got x lt g = all-under (length ns) got (membersAt ns x) g (member-nodes h x lt)
-  one-under false got x lt g = new-under (contains got x) (length ns) got x g lt
+  one-under true got x lt g = under-added (length ns) got (membersAt ns x) g (members-below ns x (record { is = h .below }))
+  one-under false got x lt g = under-added (length ns) got (x ∷ []) g (lt, tt)
 
   into-under : (got xs : List ℕ) → Under (length ns) got → Under (length ns) xs → Under (length ns) (flattenInto kind ns got xs)
   into-under got [] g u = g
@@ -77,7 +54,7 @@ module _ {w : List ℕ} {q : Pass} {ns : List Node} (h : Arena w q ns) (kind : �
 pub by-length : {A : Type 0} (xs : List ℕ) → (length xs ≤ mostMembers → A) → (mostMembers < length xs → A) → A
 by-length xs f g = ⊎-elim (λ e. f (omega arith)) (λ e. g (omega arith)) (eq-zero-or-pos (length xs - mostMembers))
 
-pub collected-none : Collected (replicate mostMembers 0) 0 []
+collected-none : Collected (replicate mostMembers 0) 0 []
 collected-none =
     record {
       room = length-replicate {A = ℕ} mostMembers 0;
@@ -85,11 +62,11 @@ collected-none =
     }
 
 -- what was collected fits where k does
-fits : {out xs : List ℕ} {k : ℕ} → Collected out k xs → k ≤ mostMembers → Few (listOf k out) xs
+fits : {out xs : List ℕ} {k : ℕ} → Collected out k xs → k ≤ mostMembers → Few (firstOf k out) xs
 fits {xs = xs} c le = by-length xs (c .list .fit) (λ h. let z = c .list .many h in absurd (omega arith))
 
 module _ {out : List ℕ} {k x : ℕ} where
-  found : {xs : List ℕ} {b : Bool} → Few (listOf k out) xs → Contains out k x b → b ≡ contains xs x
+  found : {xs : List ℕ} {b : Bool} → Few (firstOf k out) xs → Contains out k x b → b ≡ contains xs x
   found {xs} f c = c .is ∙ ap (λ (l : List ℕ). contains l x) (ap (part out 0) (f .count) ∙ f .holds .is)
 
   pub new-full : mostMembers < k → AddsNew out k x out k
@@ -102,14 +79,14 @@ module _ {out : List ℕ} {k x : ℕ} where
                 fit = λ z. let y = c .list .fit (omega (arith, new-length (contains xs x) xs x)) in let e = y .count in let f = y .few in absurd (omega arith);
                 many = λ z. h;
               };
-            }
+            };
       }
 
   pub new-there : {b : Bool} → k ≤ mostMembers → Contains out k x b → b ≡ true → AddsNew out k x out k
   new-there le g e =
       record {
         is = λ {xs} c.
-            subst (λ (l : List ℕ). Collected out k l) (ap (λ (t : Bool). if t (λ _. xs) (λ _. xs ++ (x ∷ []))) (sym e ∙ found (fits c le) g)) c
+            subst (λ (l : List ℕ). Collected out k l) (ap (λ (t : Bool). if t (λ _. xs) (λ _. xs ++ (x ∷ []))) (sym e ∙ found (fits c le) g)) c;
       }
 
   pub new-here : {out′ : List ℕ} {b : Bool} → k ≤ mostMembers → Contains out k x b → b ≡ false → out′ ≡ set out k x → AddsNew out k x out′ (k + 1)
@@ -129,7 +106,7 @@ module _ {out : List ℕ} {k x : ℕ} where
                     z;
                 many = λ z. omega arith;
               };
-            })
+            });
       }
 
 -- `add_members` at member i of node x
@@ -152,14 +129,14 @@ module _ {w out₀ : List ℕ} {k x n : ℕ} where
             subst (λ (l : List ℕ). Collected out′ got′ l)
             (ap (addNew (addAll xs (take i ms))) (member .is h le (omega arith))
             ∙ sym (ap (λ (j : ℕ). addAll xs (take j ms)) (add-one i) ∙ ap (addAll xs) (take-suc ms i 0 (omega arith)) ∙ all-snoc xs (take i ms) (getD ms i 0)))
-            (g .is (c .is h le d))
+            (g .is (c .is h le d));
       }
 
   pub adding-done : {out : List ℕ} {got i : ℕ} → Count w x n → Adding w out₀ k x n out got i → n ≤ i → AddsMembers w out₀ k x out got
   adding-done {out} {got} {i} count c le =
       record {
         is = λ {q} {ns} {xs} h lt d.
-            subst (λ (l : List ℕ). Collected out got (addAll xs l)) (take-all i (membersAt ns x) (omega (arith, count .is h lt))) (c .is h lt d)
+            subst (λ (l : List ℕ). Collected out got (addAll xs l)) (take-all i (membersAt ns x) (omega (arith, count .is h lt))) (c .is h lt d);
       }
 
 module _ {kind k x r : ℕ} {w out out′ : List ℕ} {b : Bool} (a : Is w kind x b) where
@@ -167,20 +144,20 @@ module _ {kind k x r : ℕ} {w out out′ : List ℕ} {b : Bool} (a : Is w kind 
   one-nested e g =
       record {
         is = λ {q} {ns} {xs} h lt c.
-            subst (λ (t : Bool). Collected out′ r (if t (λ _. addAll xs (membersAt ns x)) (λ _. addNew xs x))) (sym e ∙ a .is h lt) (g .is h lt c)
+            subst (λ (t : Bool). Collected out′ r (if t (λ _. addAll xs (membersAt ns x)) (λ _. addNew xs x))) (sym e ∙ a .is h lt) (g .is h lt c);
       }
 
   pub one-plain : b ≡ false → AddsNew out k x out′ r → FlattensOne kind w out k x out′ r
   one-plain e g =
       record {
         is = λ {q} {ns} {xs} h lt c.
-            subst (λ (t : Bool). Collected out′ r (if t (λ _. addAll xs (membersAt ns x)) (λ _. addNew xs x))) (sym e ∙ a .is h lt) (g .is c)
+            subst (λ (t : Bool). Collected out′ r (if t (λ _. addAll xs (membersAt ns x)) (λ _. addNew xs x))) (sym e ∙ a .is h lt) (g .is c);
       }
 
 -- `flatten_all` at member i
 pub record Flattening (kind : ℕ) (w ms : List ℕ) (n : ℕ) (out : List ℕ) (k i : ℕ) : Type 0 where
   pub few : i ≤ n
-  pub is : {q : Pass} {ns : List Node} {xs : List ℕ} → Arena w q ns → Taken (listOf n ms) xs (length ns) → Collected out k (flattenInto kind ns [] (take i xs))
+  pub is : {q : Pass} {ns : List Node} {xs : List ℕ} → Arena w q ns → Taken (firstOf n ms) xs (length ns) → Collected out k (flattenInto kind ns [] (take i xs))
 
 module _ {kind : ℕ} {w ms : List ℕ} {n : ℕ} where
   pub flattening-start : Flattening kind w ms n (replicate mostMembers 0) 0 0
@@ -197,17 +174,17 @@ module _ {kind : ℕ} {w ms : List ℕ} {n : ℕ} where
             subst (λ (l : List ℕ). Collected out′ k′ l)
             (ap (flattenOne kind ns got) (few-at (m .list) e lt)
             ∙ sym (ap (λ (j : ℕ). flattenInto kind ns [] (take j xs)) (add-one i) ∙ ap (flattenInto kind ns []) (take-suc xs i 0 (omega arith)) ∙ into-snoc kind ns [] (take i xs) (getD xs i 0)))
-            (g .is h (few-below m e lt) (c .is h m))
+            (g .is h (few-below m e lt) (c .is h m));
       }
 
-  pub flattening-done : {out : List ℕ} {k i : ℕ} → Flattening kind w ms n out k i → n ≤ i → Spreads (flattenAll kind) w (listOf n ms) (listOf k out)
+  pub flattening-done : {out : List ℕ} {k i : ℕ} → Flattening kind w ms n out k i → n ≤ i → Spreads (flattenAll kind) w (firstOf n ms) (firstOf k out)
   flattening-done {out} {k} {i} c le =
       record {
         is = λ {q} {ns} {xs} h m.
             record {
-              list = subst (λ (l : List ℕ). Lists (listOf k out) (flattenInto kind ns [] l)) (take-all i xs (omega (arith, m .list .count))) (c .is h m .list);
+              list = subst (λ (l : List ℕ). Lists (firstOf k out) (flattenInto kind ns [] l)) (take-all i xs (omega (arith, m .list .count))) (c .is h m .list);
               below = into-under h kind [] xs tt (m .below);
-            }
+            };
       }
 
 -- the ways of `flatten_composite`
@@ -227,7 +204,7 @@ module _ (kind : ℕ) {w : List ℕ} {m : Members} where
             subst (λ (l : List ℕ). Listing r l (length ns))
             (sym (ap (way kind ns xs (any (is ns kind) xs)) (le-ltb 64 (length xs) (omega (arith, t .list .count)))
             ∙ ap (λ (b : Bool). if b (λ _. xs) (λ _. flattenInto kind ns [] xs)) (both-none (not (any (is ns kind) xs)))))
-            (g .is h t)
+            (g .is h t);
       }
 
   module _ {c : Bool} (a : Tests (anyOfKind kind) w m c) where
@@ -236,7 +213,7 @@ module _ (kind : ℕ) {w : List ℕ} {m : Members} where
     flat-nested {r} e g =
         record {
           is = λ {q} {ns} {xs} h t.
-              subst (λ (l : List ℕ). Listing r l (length ns)) (ap (λ (b : Bool). way kind ns xs b (ltb 64 (length xs))) (sym e ∙ a .is h t)) (g .is h t)
+              subst (λ (l : List ℕ). Listing r l (length ns)) (ap (λ (b : Bool). way kind ns xs b (ltb 64 (length xs))) (sym e ∙ a .is h t)) (g .is h t);
         }
 
     pub flat-plain : 64 < m .count → c ≡ false → Spreads (flatten-composite kind) w m m
@@ -246,5 +223,5 @@ module _ (kind : ℕ) {w : List ℕ} {m : Members} where
           is = λ {q} {ns} {xs} h t.
               subst (λ (l : List ℕ). Listing m l (length ns))
               (sym (ap₂ (way kind ns xs) (sym (a .is h t) ∙ e) (lt-ltb 64 (length xs) (omega (arith, t .list .count)))))
-              (record { list = few-lists (t .list); below = t .below })
+              (record { list = few-lists (t .list); below = t .below });
         }

@@ -1,6 +1,6 @@
 -- Members gathered one after another, sifted by a test, searched, and put together. Assumes nothing.
 use mathlib.Core.Path.{_≡_, refl, sym, ap, ap₂, _∙_, subst}
-use mathlib.Core.Bool.{Bool, true, false, not, _||_}
+use mathlib.Core.Bool.{Bool, true, false, not, _||_, Bool·not-not}
 use mathlib.Core.Logic.{⊎-elim}
 use Prim.Native.Nat.{ℕ, suc, _+_, _-_, _≤_, _<_}
 use native.Mathlib.Omega.{arith}
@@ -8,25 +8,26 @@ use native.Mathlib.Nat.{eq-zero-or-pos}
 use native.Mathlib.Numerals.{add-one}
 use mathlib.Core.List.{List, [], _∷_, _++_, append-nil}
 use lib.ListN.{length, getD, take, drop, set, replicate, length-set, length-append, length-replicate}
-use lib.Seq.{getD-set-same, getD-set-other, take-all, length-take-le}
+use lib.Seq.{getD-set-same, getD-set-other, take-all, take-suc, length-take-le}
 use lib.Dec.{eqb}
 use borrow.Author.Tests.{eq-eqb, ne-eqb, le-ltb, lt-ltb}
-use Rattle.cells.specs.Part.{cell, part}
+use Rattle.cells.specs.Part.{cell, part, if}
 use Rattle.cells.specs.Sum.{Sum}
 use Rattle.cells.proofs.Parts.{run-length, run-getD, run-snoc}
 use Rattle.cells.proofs.Holding.{holds-none, holds-place, holds-cons, holds-both, holds-ext, holds-at, holds-head, holds-list}
 use Rattle.rules.specs.Ceilings.{mostMembers}
-use Rattle.rules.specs.Plain.{any, filter, both}
+use Rattle.rules.specs.Plain.{any, all, filter, both}
 use Rattle.rules.specs.Types.{Node, TyVar, Primitive, ListOf, Lambda, AttrSet, Union, Intersection, Named, Neg, Bottom, Top, State, Out, ok, no, bind, give, store, is, kindOf, nodeAt, encode}
-use Rattle.rules.specs.Members.{sole, isPositive, isConcrete}
+use Rattle.rules.specs.Members.{sole, membersAt, isPositive, isConcrete}
 use Rattle.rules.specs.Canonicalizer.{dropsNode}
 use Rattle.rules.specs.Canonicalizer as rules
 use Rattle.laws.proofs.Rows.{node-of, by-kind}
+use Rattle.laws.proofs.Rooting.{members-below}
 use Rattle.lang_ty.specs.Shapes.{Constructor}
 use Rattle.lang_ty.proofs.Words.{word-of}
 use Rattle.laws.proofs.Filtering.{kept, filter-take, filter-length, filter-under, under-at, under-both, any-here, any-more, any-done}
 use Rattle.lang_ty.specs.declared.arena.Pass.{Pass}
-use Rattle.lang_ty.specs.Nodes.{Arena, Stands, Answers as Stores, Lists as ListNode, Listed as ListedNode, Word, Kind, Is}
+use Rattle.lang_ty.specs.Nodes.{Arena, Stands, Answers as Stores, Lists as ListNode, Listed as ListedNode, Word, Kind, Is, Count, Member}
 use Rattle.lang_ty.specs.declared.arena.Given.{Given}
 use Rattle.lang_ty.specs.declared.arena.Given.the-variants.{Node as NodeG, Refused as RefusedN}
 use Rattle.members.specs.declared.lists.Members.{Members}
@@ -36,11 +37,8 @@ use Rattle.members.specs.declared.lists.Listed.{Listed}
 use Rattle.members.specs.declared.lists.AtMostOne.{AtMostOne}
 use Rattle.members.specs.declared.lists.AtMostOne.the-variants.{Nothing, One, Refused as RefusedP}
 use Rattle.members.specs.declared.lists.Grown.the-variants.{On as OnG, Refused as RefusedG}
-use Rattle.members.specs.Lists.{Few, Lists, Taken, Makes, Tests, Asks, Contains, Gathered, only, KeepsIf, ofKind, Refuses, Wraps, PartIs, AnswersPart, Soles, Grows, CopiedInto, Joined, AsListed, WithLast, Preserves, Drops, stays, DropsFillers, AnswersFlow, Answers}
+use Rattle.members.specs.Lists.{Few, Lists, Taken, Asks, Contains, firstOf, MembersOf, Gathered, only, KeepsIf, ofKind, Refuses, Wraps, PartIs, AnswersPart, Soles, Grows, CopiedInto, Joined, AsListed, WithLast, Preserves, Drops, AnswersFlow, Answers}
 use Rattle.cells.specs.Placed.{Holds}
-
-abbrev pub listOf : ℕ → List ℕ → Members
-listOf n ms = record { count = n; at = ms }
 
 pub few-lists : {m : Members} {xs : List ℕ} → Few m xs → Lists m xs
 few-lists h = record { fit = λ z. h; many = λ z. let f = h .few in absurd (omega arith) }
@@ -74,7 +72,7 @@ gathered-more {out} {out′} {xs} {k} {r} x g lt e sum =
       room = ap length e ∙ length-set out k x ∙ g .room;
     }
 
-pub gathered-few : {out xs : List ℕ} {k : ℕ} → Gathered out k xs → length xs ≤ mostMembers → Few (listOf k out) xs
+pub gathered-few : {out xs : List ℕ} {k : ℕ} → Gathered out k xs → length xs ≤ mostMembers → Few (firstOf k out) xs
 gathered-few g le = record { count = g .count; holds = g .holds; few = le }
 
 pub gathered-list : {out xs ys : List ℕ} {k : ℕ} → xs ≡ ys → Gathered out k xs → Gathered out k ys
@@ -98,72 +96,122 @@ pub kept-only : (b : Bool) (x : ℕ) → only b x ≡ kept b x
 kept-only true x = refl
 kept-only false x = refl
 
--- members sifted by a test of the nodes, at member i
-pub record Sifting (f : List Node → List ℕ → ℕ → Bool) (w ms : List ℕ) (n : ℕ) (out : List ℕ) (k i : ℕ) : Type 0 where
-  pub few : i ≤ n
-  pub is : {q : Pass} {ns : List Node} {xs : List ℕ} → Arena w q ns → Taken (listOf n ms) xs (length ns) → Gathered out k (filter (f ns xs) (take i xs))
+-- what a test takes for granted beside the node: nothing, or that the first n cells of ms are the list xs
+abbrev pub alone : Unit {0} → List Node → Type 0
+alone u ns = Unit {0}
 
--- the test's answer on x, where it is a member
-pub record Tried (f : List Node → List ℕ → ℕ → Bool) (w ms : List ℕ) (n x : ℕ) (b : Bool) : Type 0 where
-  pub is : {q : Pass} {ns : List Node} {xs : List ℕ} → Arena w q ns → Taken (listOf n ms) xs (length ns) → x < length ns → b ≡ f ns xs x
+abbrev pub listed : List ℕ → ℕ → List ℕ → List Node → Type 0
+listed ms n xs ns = Taken (firstOf n ms) xs (length ns)
 
-pub asked : {f : List Node → ℕ → Bool} {w ms : List ℕ} {n x : ℕ} {b : Bool} → Asks f w x b → Tried (λ ns xs. f ns) w ms n x b
-asked a = record { is = λ h m lt. a .is h lt }
+-- b is the answer of the test f on x, for each a that P takes for granted
+pub record Tried {A : Type 0} (P : A → List Node → Type 0) (f : A → List Node → ℕ → Bool) (w : List ℕ) (x : ℕ) (b : Bool) : Type 0 where
+  pub is : {q : Pass} {ns : List Node} (a : A) → Arena w q ns → P a ns → x < length ns → b ≡ f a ns x
 
-module _ {f : List Node → List ℕ → ℕ → Bool} {w ms : List ℕ} {n : ℕ} where
-  pub sifting-start : Sifting f w ms n (replicate mostMembers 0) 0 0
-  sifting-start = record { few = omega arith; is = λ h t. gathered-none (length-replicate {A = ℕ} mostMembers 0) }
+-- members sifted by such a test, at member i; and all of them
+pub record Sifting {A : Type 0} (P : A → List Node → Type 0) (f : A → List Node → ℕ → Bool) (w ms : List ℕ) (n : ℕ) (out : List ℕ) (k i : ℕ) : Type 0 where
+  pub is : {q : Pass} {ns : List Node} {xs : List ℕ} (a : A) → Arena w q ns → P a ns → Taken (firstOf n ms) xs (length ns) → Gathered out k (filter (f a ns) (take i xs))
 
-  pub sifting-more : {out out′ : List ℕ} {k k′ i x : ℕ} {b : Bool} → Sifting f w ms n out k i → i < n → x ≡ cell ms i → Tried f w ms n x b → KeepsIf out k x b out′ k′
-      → Sifting f w ms n out′ k′ (i + 1)
-  sifting-more {out} {out′} {k} {k′} {i} {x} {b} c lt e t g =
+pub record Sifted {A : Type 0} (P : A → List Node → Type 0) (f : A → List Node → ℕ → Bool) (w : List ℕ) (m r : Members) : Type 0 where
+  pub is : {q : Pass} {ns : List Node} {xs : List ℕ} (a : A) → Arena w q ns → P a ns → Taken m xs (length ns) → Taken r (filter (f a ns) xs) (length ns)
+
+-- members searched by such a test from a place on, at member i; and to the end
+pub record Searching {A : Type 0} (P : A → List Node → Type 0) (f : A → List Node → ℕ → Bool) (w ms : List ℕ) (from n i : ℕ) : Type 0 where
+  pub is : {q : Pass} {ns : List Node} {xs : List ℕ} (a : A) → Arena w q ns → P a ns → Taken (firstOf n ms) xs (length ns)
+      → any (f a ns) (drop i xs) ≡ any (f a ns) (drop from xs)
+
+pub record Searched {A : Type 0} (P : A → List Node → Type 0) (f : A → List Node → ℕ → Bool) (w ms : List ℕ) (from n : ℕ) (r : Bool) : Type 0 where
+  pub is : {q : Pass} {ns : List Node} {xs : List ℕ} (a : A) → Arena w q ns → P a ns → Taken (firstOf n ms) xs (length ns) → r ≡ any (f a ns) (drop from xs)
+
+module _ {A : Type 0} {P : A → List Node → Type 0} {f : A → List Node → ℕ → Bool} {w ms : List ℕ} {n : ℕ} where
+  says : {i x : ℕ} {b : Bool} → i < n → x ≡ cell ms i → Tried P f w x b → {q : Pass} {ns : List Node} {xs : List ℕ} (a : A) → Arena w q ns → P a ns
+      → Taken (firstOf n ms) xs (length ns) → b ≡ f a ns (getD xs i 0)
+  says lt e t {ns = ns} a h p m = t .is a h p (few-below m e lt) ∙ ap (f a ns) (few-at (m .list) e lt)
+
+  pub sifting-start : Sifting P f w ms n (replicate mostMembers 0) 0 0
+  sifting-start = record { is = λ a h p m. gathered-none (length-replicate {A = ℕ} mostMembers 0) }
+
+  pub sifting-more : {out out′ : List ℕ} {k k′ i x : ℕ} {b : Bool} → Sifting P f w ms n out k i → i < n → x ≡ cell ms i → Tried P f w x b → KeepsIf out k x b out′ k′
+      → Sifting P f w ms n out′ k′ (i + 1)
+  sifting-more {i = i} {x = x} {b = b} c lt e t g =
       record {
-        few = omega arith;
-        is = λ {q} {ns} {xs} h m.
+        is = λ {q} {ns} {xs} a h p m.
             let size = m .list .count in
-            let y : x ≡ getD xs i 0 = few-at (m .list) e lt in
-            let l = filter-length (f ns xs) (take i xs) in
+            let l = filter-length (f a ns) (take i xs) in
             let z = length-take-le i xs (omega arith) in
             gathered-list
-            (ap (λ (l : List ℕ). filter (f ns xs) (take i xs) ++ l) (kept-only b x ∙ ap₂ kept (t .is h m (few-below m e lt) ∙ ap (f ns xs) y) y)
-            ∙ sym (ap (λ (j : ℕ). filter (f ns xs) (take j xs)) (add-one i) ∙ filter-take (f ns xs) xs i (omega arith)))
-            (g .is (c .is h m) (omega (arith, m .list .few)))
+            (ap (λ (l : List ℕ). filter (f a ns) (take i xs) ++ l) (kept-only b x ∙ ap₂ kept (says lt e t a h p m) (few-at (m .list) e lt))
+            ∙ sym (ap (λ (j : ℕ). filter (f a ns) (take j xs)) (add-one i) ∙ filter-take (f a ns) xs i (omega arith)))
+            (g .is (c .is a h p m) (omega (arith, m .list .few)));
       }
 
-  pub sifting-done : {out : List ℕ} {k i : ℕ} → Sifting f w ms n out k i → n ≤ i → Makes (λ ns xs. filter (f ns xs) xs) w (listOf n ms) (listOf k out)
-  sifting-done {out} {k} {i} c le =
+  pub sifting-done : {out : List ℕ} {k i : ℕ} → Sifting P f w ms n out k i → n ≤ i → Sifted P f w (firstOf n ms) (firstOf k out)
+  sifting-done {i = i} c le =
       record {
-        is = λ {q} {ns} {xs} h m.
+        is = λ {q} {ns} {xs} a h p m.
             record {
               list =
                   gathered-few
-                  (gathered-list (ap (filter (f ns xs)) (take-all i xs (omega (arith, m .list .count)))) (c .is h m))
-                  (omega (arith, filter-length (f ns xs) xs, m .list .few));
-              below = filter-under (f ns xs) (length ns) xs (m .below);
-            }
+                  (gathered-list (ap (filter (f a ns)) (take-all i xs (omega (arith, m .list .count)))) (c .is a h p m))
+                  (omega (arith, filter-length (f a ns) xs, m .list .few));
+              below = filter-under (f a ns) (length ns) xs (m .below);
+            };
       }
 
--- members searched by a test of the nodes, at member i
-pub record Searching (f : List Node → List ℕ → ℕ → Bool) (w ms : List ℕ) (n i : ℕ) : Type 0 where
-  pub few : i ≤ n
-  pub is : {q : Pass} {ns : List Node} {xs : List ℕ} → Arena w q ns → Taken (listOf n ms) xs (length ns) → any (f ns xs) (drop i xs) ≡ any (f ns xs) xs
+  module _ {from : ℕ} where
+    pub searching-start : Searching P f w ms from n from
+    searching-start = record { is = λ a h p m. refl }
 
-module _ {f : List Node → List ℕ → ℕ → Bool} {w ms : List ℕ} {n : ℕ} where
-  pub searching-start : Searching f w ms n 0
-  searching-start = record { few = omega arith; is = λ h t. refl }
+    module _ {i x : ℕ} {b : Bool} (c : Searching P f w ms from n i) (lt : i < n) (e : x ≡ cell ms i) (t : Tried P f w x b) where
+      pub searching-here : b ≡ true → Searched P f w ms from n true
+      searching-here z =
+          record { is = λ {q} {ns} {xs} a h p m. any-here (f a ns) xs i (c .is a h p m) (omega (arith, m .list .count)) (sym z ∙ says lt e t a h p m) }
 
-  module _ {i x : ℕ} {b : Bool} (c : Searching f w ms n i) (lt : i < n) (e : x ≡ cell ms i) (t : Tried f w ms n x b) where
-    says : {q : Pass} {ns : List Node} {xs : List ℕ} → Arena w q ns → Taken (listOf n ms) xs (length ns) → b ≡ f ns xs (getD xs i 0)
-    says {ns = ns} {xs = xs} h m = t .is h m (few-below m e lt) ∙ ap (f ns xs) (few-at (m .list) e lt)
+      pub searching-more : b ≡ false → Searching P f w ms from n (i + 1)
+      searching-more z =
+          record { is = λ {q} {ns} {xs} a h p m. any-more (f a ns) xs i (c .is a h p m) (omega (arith, m .list .count)) (sym z ∙ says lt e t a h p m) }
 
-    pub searching-here : b ≡ true → Tests (λ ns xs. any (f ns xs) xs) w (listOf n ms) true
-    searching-here z = record { is = λ {q} {ns} {xs} h m. any-here (f ns xs) xs i (c .is h m) (omega (arith, m .list .count)) (sym z ∙ says h m) }
+    pub searching-done : {i : ℕ} → Searching P f w ms from n i → n ≤ i → Searched P f w ms from n false
+    searching-done {i} c le = record { is = λ {q} {ns} {xs} a h p m. any-done (f a ns) xs i (c .is a h p m) (omega (arith, m .list .count)) }
 
-    pub searching-more : b ≡ false → Searching f w ms n (i + 1)
-    searching-more z = record { few = omega arith; is = λ {q} {ns} {xs} h m. any-more (f ns xs) xs i (c .is h m) (omega (arith, m .list .count)) (sym z ∙ says h m) }
+-- a test that holds of all, and none of which it fails
+all-turn : (b c d : Bool) → c ≡ not d → if b (λ _. c) (λ _. false) ≡ not (if (not b) (λ _. true) (λ _. d))
+all-turn true c d e = e
+all-turn false c d e = refl
 
-  pub searching-done : {i : ℕ} → Searching f w ms n i → n ≤ i → Tests (λ ns xs. any (f ns xs) xs) w (listOf n ms) false
-  searching-done {i} c le = record { is = λ {q} {ns} {xs} h m. any-done (f ns xs) xs i (c .is h m) (omega (arith, m .list .count)) }
+pub all-not : (p : ℕ → Bool) (xs : List ℕ) → all p xs ≡ not (any (λ (y : ℕ). not (p y)) xs)
+all-not p [] = refl
+all-not p (x ∷ xs) = all-turn (p x) (all p xs) (any (λ (y : ℕ). not (p y)) xs) (all-not p xs)
+
+-- the members of node x put into a list, at member i
+pub record Opening (w : List ℕ) (x : ℕ) (out : List ℕ) (i : ℕ) : Type 0 where
+  pub is : {q : Pass} {ns : List Node} → Arena w q ns → x < length ns → Gathered out i (take i (membersAt ns x))
+
+module _ {w : List ℕ} {x : ℕ} where
+  pub opening-start : Opening w x (replicate mostMembers 0) 0
+  opening-start = record { is = λ h lt. gathered-none (length-replicate {A = ℕ} mostMembers 0) }
+
+  pub opening-more : {n i y : ℕ} {out out′ : List ℕ} → Count w x n → Opening w x out i → i < n → Member w x i y → out′ ≡ set out i y → Opening w x out′ (i + 1)
+  opening-more {i = i} {y = y} count c lt member e =
+      record {
+        is = λ {q} {ns} h le.
+            let ms = membersAt ns x in
+            let size = count .is h le in
+            gathered-list
+            (ap (λ (z : ℕ). take i ms ++ (z ∷ [])) (member .is h le (omega arith)) ∙ sym (ap (λ (j : ℕ). take j ms) (add-one i) ∙ take-suc ms i 0 (omega arith)))
+            (gathered-more y (c .is h le) (omega (arith, length-take-le i ms (omega arith), h .slim x le)) e (record { is = λ z. refl; full = λ z. omega (arith, h .slim x le) }));
+      }
+
+  pub opening-done : {n i : ℕ} {out : List ℕ} → Count w x n → Opening w x out i → n ≤ i → MembersOf w x (firstOf n out)
+  opening-done {i = i} count c le =
+      record {
+        is = λ {q} {ns} h lt.
+            let ms = membersAt ns x in
+            let size = count .is h lt in
+            record {
+              list = record { count = size; holds = gathered-list (take-all i ms (omega arith)) (c .is h lt) .holds; few = h .slim x lt };
+              below = members-below ns x (record { is = h .below });
+            };
+      }
 
 -- `contains` at cell i
 pub record Containing (s : List ℕ) (n x i : ℕ) : Type 0 where
@@ -220,13 +268,13 @@ module _ {k a n : ℕ} {from out₀ : List ℕ} where
             (holds-place (omega arith) (holds-cons (getD-set-same out p v 0 (omega (arith, c .same))) (holds-none (set out p v) (suc p)))));
       })
 
-  pub filling-done : {out : List ℕ} {i : ℕ} → Filling k from a n out₀ out i → n ≤ i → k + n ≤ length out₀ → Holds out k (part from a n)
+  filling-done : {out : List ℕ} {i : ℕ} → Filling k from a n out₀ out i → n ≤ i → k + n ≤ length out₀ → Holds out k (part from a n)
   filling-done {out} {i} c le room =
       let f = c .few in
       let e : i ≡ n = omega arith in
       holds-list (ap (part from a) e) (c .is (omega arith))
 
-pub held-is : {s out : List ℕ} {h n i : ℕ} → Filling 0 s h n (replicate mostMembers 0) out i → n ≤ i → Lists (listOf n out) (part s h n)
+pub held-is : {s out : List ℕ} {h n i : ℕ} → Filling 0 s h n (replicate mostMembers 0) out i → n ≤ i → Lists (firstOf n out) (part s h n)
 held-is {s} {out} {h} {n} c le =
     let size = run-length (cell s) h n in
     record {
@@ -234,7 +282,7 @@ held-is {s} {out} {h} {n} c le =
       many = λ z. omega arith;
     }
 
-pub copied-is : {out out′ : List ℕ} {k n i r : ℕ} {ms : List ℕ} → Filling k ms 0 n out out′ i → n ≤ i → Sum k n r → CopiedInto out k (listOf n ms) out′ r
+pub copied-is : {out out′ : List ℕ} {k n i r : ℕ} {ms : List ℕ} → Filling k ms 0 n out out′ i → n ≤ i → Sum k n r → CopiedInto out k (firstOf n ms) out′ r
 copied-is {out} {out′} {k} {n} {i} {r} {ms} c le sum =
     record {
       sum = sum;
@@ -248,14 +296,14 @@ copied-is {out} {out′} {k} {n} {i} {r} {ms} c le sum =
                 holds-both xs ys (holds-ext (g .holds) (λ j lt. c .below j (omega arith)))
                 (holds-place (omega arith) (holds-list (ap (part ms 0) b ∙ m .holds .is) (filling-done c le (omega (arith, g .room)))));
             room = c .same ∙ g .room;
-          }
+          };
     }
 
 sum-over : {a b r : ℕ} → Sum a b r → mostMembers < a + b → mostMembers < r
 sum-over {a} {b} {r} s h =
     ⊎-elim (λ e. let f = s .is (omega arith) in omega arith) (λ e. let f = s .full (omega arith) in omega arith) (eq-zero-or-pos (a + b - 4294967295))
 
-pub joined-is : {a b : Members} {out out′ : List ℕ} {k n : ℕ} → CopiedInto (replicate mostMembers 0) 0 a out k → CopiedInto out k b out′ n → Joined a b (listOf n out′)
+pub joined-is : {a b : Members} {out out′ : List ℕ} {k n : ℕ} → CopiedInto (replicate mostMembers 0) 0 a out k → CopiedInto out k b out′ n → Joined a b (firstOf n out′)
 joined-is {a} {b} {out} {out′} {k} {n} c d =
     record {
       is = λ {xs} {ys} l m.
@@ -271,15 +319,15 @@ joined-is {a} {b} {out} {out′} {k} {n} c d =
                 ⊎-elim
                 (λ e. ⊎-elim
                 (λ f.
-                  let x = l .fit (omega arith) .count in
-                  let y = m .fit (omega arith) .count in
-                  let t : k ≡ 0 + a .count = c .sum .is (omega arith) in
-                  sum-over (d .sum) (omega arith))
+                let x = l .fit (omega arith) .count in
+                let y = m .fit (omega arith) .count in
+                let t : k ≡ 0 + a .count = c .sum .is (omega arith) in
+                sum-over (d .sum) (omega arith))
                 (λ f. high (m .many (omega arith)))
                 (eq-zero-or-pos (length ys - mostMembers)))
                 (λ e. low (l .many (omega arith)))
                 (eq-zero-or-pos (length xs - mostMembers));
-          }
+          };
     }
 
 -- the ways of `sole`
@@ -326,7 +374,7 @@ module _ {w : List ℕ} {q : Pass} {m : Members} where
         record {
           is = λ {st} {xs} {wrap} wraps on t.
               subst (λ (o : Out (List ℕ)). AnswersPart o w′ (One x r)) (sym (more-way st xs wrap t))
-              (sole-node (subst (λ (y : Given). Stores (store (wrap xs) st) w′ y) e (stored wraps on t)))
+              (sole-node (subst (λ (y : Given). Stores (store (wrap xs) st) w′ y) e (stored wraps on t)));
         }
 
     pub sole-refused : {k : ℕ} → g ≡ RefusedN k → Soles kind w q m w′ (RefusedP k)
@@ -334,7 +382,7 @@ module _ {w : List ℕ} {q : Pass} {m : Members} where
         record {
           is = λ {st} {xs} {wrap} wraps on t.
               more-way st xs wrap t
-              ∙ ap (λ (o : Out ℕ). bind o (λ x. give (x ∷ []))) (subst (λ (y : Given). Stores (store (wrap xs) st) w′ y) e (stored wraps on t) .is)
+              ∙ ap (λ (o : Out ℕ). bind o (λ x. give (x ∷ []))) (subst (λ (y : Given). Stores (store (wrap xs) st) w′ y) e (stored wraps on t) .is);
         }
 
 -- the ways of `of_that_kind`
@@ -353,9 +401,6 @@ module _ {w : List ℕ} {k x : ℕ} {c : Bool} (a : Is w k x c) where
   pub kind-unwanted : {wanted r : Bool} → wanted ≡ false → r ≡ not c → Asks (ofKind k wanted) w x r
   kind-unwanted {wanted} e f = other-by wanted e f
 
-  pub is-tried : {ms : List ℕ} {n : ℕ} → Tried (λ ns xs. is ns k) w ms n x c
-  is-tried = record { is = λ h m lt. a .is h lt }
-
 -- unions and intersections are lists of their members
 pub wraps-union : Wraps 5 Union
 wraps-union = record { is = λ xs b. record { row = refl; cells = omega arith; members = refl; below = b } }
@@ -369,7 +414,7 @@ grow-nothing {out} {k} {p} {q} e =
     record {
       is = λ o w {xs} a g lt.
           let b = subst (λ (x : AtMostOne). AnswersPart o w x) e a in
-          record { after = b .after; list = []; is = b .is; stands = b .stands; below = tt; most = omega arith; gathered = gathered-list (sym (append-nil xs)) g }
+          record { after = b .after; list = []; is = b .is; stands = b .stands; below = tt; most = omega arith; gathered = gathered-list (sym (append-nil xs)) g };
     }
 
 pub grow-one : {out out′ : List ℕ} {k r x : ℕ} {p : AtMostOne} {q : Pass} → p ≡ One x q → out′ ≡ set out k x → Sum k 1 r → Grows out k p out′ (OnG r q)
@@ -377,7 +422,7 @@ grow-one {out} {out′} {k} {r} {x} {p} {q} e f sum =
     record {
       is = λ o w {xs} a g lt.
           let b = subst (λ (x : AtMostOne). AnswersPart o w x) e a in
-          record { after = b .after; list = x ∷ []; is = b .is; stands = b .stands; below = b .below; most = omega arith; gathered = gathered-more x g lt f sum }
+          record { after = b .after; list = x ∷ []; is = b .is; stands = b .stands; below = b .below; most = omega arith; gathered = gathered-more x g lt f sum };
     }
 
 pub grow-refused : {out : List ℕ} {k why : ℕ} {p : AtMostOne} → p ≡ RefusedP why → Grows out k p out (RefusedG why)
@@ -389,7 +434,7 @@ listed-nothing {p} {q} e f =
     record {
       is = λ o w a.
           let b = subst (λ (x : AtMostOne). AnswersPart o w x) e a in
-          record { after = b .after; list = []; is = b .is; stands = b .stands; taken = record { list = f; below = tt } }
+          record { after = b .after; list = []; is = b .is; stands = b .stands; taken = record { list = f; below = tt } };
     }
 
 pub listed-one : {p : AtMostOne} {q : Pass} {x : ℕ} {m : Members} → p ≡ One x q → Few m (x ∷ []) → AsListed p (record { flow = On q; members = m })
@@ -397,7 +442,7 @@ listed-one {p} {q} {x} e f =
     record {
       is = λ o w a.
           let b = subst (λ (x : AtMostOne). AnswersPart o w x) e a in
-          record { after = b .after; list = x ∷ []; is = b .is; stands = b .stands; taken = record { list = f; below = b .below } }
+          record { after = b .after; list = x ∷ []; is = b .is; stands = b .stands; taken = record { list = f; below = b .below } };
     }
 
 -- a refusal answers a refusal
@@ -422,32 +467,15 @@ last-node {m} {n} {l} {g} {x} {q} e f j =
               list = j .is (few-lists few) (few-lists f) .fit (omega arith);
               below = under-both (length (b .after .nodes)) xs (x ∷ []) (below x (b .after) (b .is)) (b .below, tt);
             };
-          }
+          };
     }
 
 pub last-refused : {m : Members} {g : Given} {k : ℕ} {r : Listed} → g ≡ RefusedN k → Refuses k r → WithLast m g r
 last-refused {k = k} e f =
     record {
       is = λ o w {xs} a few lt below.
-          refuses (bind o (λ x. give (xs ++ (x ∷ [])))) w f (ap (λ (o : Out ℕ). bind o (λ x. give (xs ++ (x ∷ [])))) (subst (λ (y : Given). Stores o w y) e a .is))
+          refuses (bind o (λ x. give (xs ++ (x ∷ [])))) w f (ap (λ (o : Out ℕ). bind o (λ x. give (xs ++ (x ∷ [])))) (subst (λ (y : Given). Stores o w y) e a .is));
     }
-
--- `concrete` at member i, for each pass whose facts these are
-pub record Sorting (table : List ℕ) (f count : ℕ) (w ms : List ℕ) (n : ℕ) (out : List ℕ) (k i : ℕ) : Type 0 where
-  pub few : i ≤ n
-  pub is : {p : rules.Pass} → Preserves p table f count → Sifting (λ ns xs. stays p ns) w ms n out k i
-
-module _ {table : List ℕ} {f count : ℕ} {w ms : List ℕ} {n : ℕ} where
-  pub sorting-start : Sorting table f count w ms n (replicate mostMembers 0) 0 0
-  sorting-start = record { few = omega arith; is = λ pre. sifting-start }
-
-  pub sorting-more : {out out′ : List ℕ} {k k′ i x : ℕ} {b c : Bool} → Sorting table f count w ms n out k i → i < n → x ≡ cell ms i → Drops table f count w x c → b ≡ not c
-      → KeepsIf out k x b out′ k′ → Sorting table f count w ms n out′ k′ (i + 1)
-  sorting-more a lt e d z g =
-      record { few = omega arith; is = λ pre. sifting-more (a .is pre) lt e (record { is = λ h m le. z ∙ ap not (d .is pre .is h le) }) g }
-
-  pub sorting-done : {out : List ℕ} {k i : ℕ} → Sorting table f count w ms n out k i → n ≤ i → DropsFillers table f count w (listOf n ms) (listOf k out)
-  sorting-done a le = record { is = λ pre. sifting-done (a .is pre) le }
 
 -- what a member's kind says of it
 abbrev plain : Bool → Bool → Bool → Bool → Bool
@@ -455,10 +483,6 @@ plain a b c d = not (a || b || c || d)
 
 abbrev neither : ℕ → Bool
 neither k = plain (eqb k 8) (eqb k 0) (eqb k 9) (eqb k 10)
-
-not-not : (b : Bool) → not (not b) ≡ b
-not-not true = refl
-not-not false = refl
 
 no-filler : (p : rules.Pass) (n : Node) → (kindOf n ≡ 0 → ⊥) → (kindOf n ≡ 9 → ⊥) → (kindOf n ≡ 10 → ⊥) → dropsNode p n ≡ false
 no-filler p (TyVar x) a b c = absurd (a refl)
@@ -506,7 +530,7 @@ module _ {w : List ℕ} {x k : ℕ} (a : Kind w x k) where
     drops-other e g z =
         record {
           is = λ {p} pre.
-              record { is = λ {q} {ns} h lt. sym (no-filler p (nodeAt ns x) (λ y. z (a .is h lt ∙ y)) (λ y. e (a .is h lt ∙ y)) (λ y. g (a .is h lt ∙ y))) }
+              record { is = λ {q} {ns} h lt. sym (no-filler p (nodeAt ns x) (λ y. z (a .is h lt ∙ y)) (λ y. e (a .is h lt ∙ y)) (λ y. g (a .is h lt ∙ y))) };
         }
 
     module _ {v : ℕ} (e : k ≡ 0) (b : Word w x 1 v) where
@@ -520,8 +544,8 @@ module _ {w : List ℕ} {x k : ℕ} (a : Kind w x k) where
                       let z = sym (a .is h lt) ∙ e in
                       let long = by-kind n (λ (m : Node). length (encode m) ≡ 2) 0 z refl in
                       let y : v ≡ getD (encode n) 1 0 = word-of h b lt (omega arith) in
-                      g p pre ∙ ap (λ (j : ℕ). dropsNode p (TyVar j)) y ∙ ap (dropsNode p) (node-of n 0 z)
-                }
+                      g p pre ∙ ap (λ (j : ℕ). dropsNode p (TyVar j)) y ∙ ap (dropsNode p) (node-of n 0 z);
+                };
           }
 
       pub drops-past : count ≤ v → Drops table f count w x true
@@ -532,7 +556,7 @@ module _ {w : List ℕ} {x k : ℕ} (a : Kind w x k) where
       drops-fact {y} {c} lt z d g =
           drops-var
           (λ p pre.
-            g
-            ∙ ap (λ (j : ℕ). eqb j 0) (d ∙ ap (cell table) z)
-            ∙ sym (not-not (eqb (cell table (f + v)) 0))
-            ∙ sym (ap₂ (λ (t u : Bool). not (both t (λ _. u))) (lt-ltb v (p .count) (omega (arith, pre .size))) (pre .is v lt)))
+          g
+          ∙ ap (λ (j : ℕ). eqb j 0) (d ∙ ap (cell table) z)
+          ∙ sym (Bool·not-not (eqb (cell table (f + v)) 0))
+          ∙ sym (ap₂ (λ (t u : Bool). not (both t (λ _. u))) (lt-ltb v (p .count) (omega (arith, pre .size))) (pre .is v lt)))

@@ -1,3 +1,4 @@
 pub mod Gathered
 pub mod Flattened
 pub mod Negated
+pub mod Partway

@@ -19,6 +19,7 @@ use Rattle.rules.specs.Types.{State, Out, ok, no, Run, bind, give, grown, keep,
 use Rattle.rules.specs.Types as rules
 use Rattle.rules.specs.Members.{each, negateNode, negateBy, negate-output-ty}
 use Rattle.laws.proofs.Rows.{node-of, by-kind}
+use Rattle.laws.proofs.Rooting.{members-children}
 use Rattle.laws.proofs.Storing.{store-keeps}
 use Rattle.lang_ty.specs.declared.arena.Pass.{Pass}
 use Rattle.lang_ty.specs.declared.arena.Given.{Given}
@@ -61,7 +62,7 @@ few-marks true n st f = refl
 few-marks false n st f = keep-marks n st f
 
 -- the store reads no marks
-pub store-marks : (n : rules.Node) (st : State) → store n st ≡ remarked st (store n (unmarked st))
+store-marks : (n : rules.Node) (st : State) → store n st ≡ remarked st (store n (unmarked st))
 unfolding store
 store-marks n st = few-marks (ltb mostMembers (length (members n))) n st (find (eqList (encode n)) 0 (map encode (st .nodes)))
 
@@ -176,7 +177,7 @@ module _ {w held w′ held′ : List ℕ} {h x n k kind : ℕ} {p : Pass} {g : G
             let lt : x < p .nodes = omega (arith, b .known, b .stands .arena .count, c .nodes) in
             subst (λ (m : rules.Node). AnswersCounted (store m st) st w′ q h held held′ r) (sym turned)
             (answered w held w′ held′ h x st q (Neg x) b g r
-            (a .is {n = Neg x} (unmarked-stands c q (b .stands)) (record { cells = refl; few = omega arith; below = (lt, tt); short = omega arith }) refl) i)
+            (a .is {n = Neg x} (unmarked-stands c q (b .stands)) (record { cells = refl; few = omega arith; below = (lt, tt); short = omega arith }) refl) i);
       }
 
   pub negation-turns : (kind ≡ 8 → ⊥) → Listed kind held h n w p w′ g → StoresNegation w held h x n w′ held′ r
@@ -187,7 +188,7 @@ module _ {w held w′ held′ : List ℕ} {h x n k kind : ℕ} {p : Pass} {g : G
             let all = part held h n in
             let u′ = subst (λ (j : ℕ). Under j all) (b .stands .arena .count ∙ sym (c .nodes)) u in
             answered w held w′ held′ h x st q (turnedNode all x (kindOf (nodeAt (st .nodes) x))) b g r
-            (a .is (unmarked-stands c q (b .stands)) (subst (λ (j : ℕ). Lists (turnedNode all x j) kind all (p .nodes)) z (turned-lists x all t e u′))) i
+            (a .is (unmarked-stands c q (b .stands)) (subst (λ (j : ℕ). Lists (turnedNode all x j) kind all (p .nodes)) z (turned-lists x all t e u′))) i;
       }
 
 -- the members of the nodes below, and of nodes that are followed by more
@@ -199,20 +200,6 @@ up-to-more : (ns more : List rules.Node) (k : ℕ) → k ≤ length ns → membe
 up-to-more ns more zero h = refl
 up-to-more ns more (suc k) h =
     ap₂ (λ (a b : ℕ). a + b) (up-to-more ns more k (omega arith)) (ap (λ (n : rules.Node). length (members n)) (List·getD-append ns more Bottom k (omega arith)))
-
--- members are children
-pub under-members : (k : ℕ) (n : rules.Node) → Under k (children n) → Under k (members n)
-under-members k (TyVar a) u = tt
-under-members k (Primitive c) u = tt
-under-members k (ListOf a) u = tt
-under-members k (Lambda a b) u = tt
-under-members k (AttrSet a) u = tt
-under-members k (Union ms) u = u
-under-members k (Intersection ms) u = u
-under-members k (Named m a) u = tt
-under-members k (Neg a) u = tt
-under-members k Bottom u = tt
-under-members k Top u = tt
 
 -- a node that is no Neg is turned over once its members are negated
 turned-over : (f : ℕ → Run ℕ) (x : ℕ) (n : rules.Node) (st : State) → (kindOf n ≡ 8 → ⊥)
@@ -324,7 +311,7 @@ module _ {f : ℕ} {st : State} {w₀ w held₀ held : List ℕ} {q : Pass} {h x
 
   member-below : {m : ℕ} → Member w x i m → i < length mine → m < x
   member-below {m} c lt =
-      omega (arith, member-is c lt, under-at x mine i (under-members x (nodeAt (st .nodes) x) (n .stands .arena .below x (n .known))) lt)
+      omega (arith, member-is c lt, under-at x mine i (members-children x (nodeAt (st .nodes) x) (n .stands .arena .below x (n .known))) lt)
 
   up-same : (k : ℕ) → k ≤ length (st .nodes) → membersUpTo (mid .now .nodes) k ≡ membersUpTo (st .nodes) k
   up-same k le = ap (λ (l : List rules.Node). membersUpTo l k) (mid .nodes) ∙ up-to-more (st .nodes) (mid .more) k le
@@ -382,11 +369,11 @@ module _ {f : ℕ} {st : State} {w₀ w held₀ held : List ℕ} {q : Pass} {h x
       let fit : h + i < length held′ = omega (arith, n .room) in
       let put′ : held″ ≡ set held′ (h + i) y = put ∙ ap (λ (v : ℕ). set held′ v y) place in
       let other : (k : ℕ) → k < h → cell held″ k ≡ cell held′ k =
-            λ k l. ap (λ (v : List ℕ). cell v k) put′ ∙ getD-set-other held′ (h + i) k y 0 (λ z. omega arith) in
+      λ k l. ap (λ (v : List ℕ). cell v k) put′ ∙ getD-set-other held′ (h + i) k y 0 (λ z. omega arith) in
       let parts : part held″ h (i + 1) ≡ part held h i ++ (y ∷ []) =
-            ap (part held″ h) (add-one i) ∙ ap (λ (v : List ℕ). part v h (suc i)) put′ ∙ part-set-snoc held′ h i y fit
-            ∙ ap (λ (l : List ℕ). l ++ (y ∷ []))
-            (run-ext (cell held′) (cell held) h i (λ k b c. a .kept k (omega arith) (λ z. omega arith) (λ z. omega arith))) in
+      ap (part held″ h) (add-one i) ∙ ap (λ (v : List ℕ). part v h (suc i)) put′ ∙ part-set-snoc held′ h i y fit
+      ∙ ap (λ (l : List ℕ). l ++ (y ∷ []))
+      (run-ext (cell held′) (cell held) h i (λ k b c. a .kept k (omega arith) (λ z. omega arith) (λ z. omega arith))) in
       record {
         now = a .after;
         more = mid .more ++ a .more;
@@ -500,7 +487,7 @@ module _ {w held held1 w′ held′ : List ℕ} {h x : ℕ} {q : Pass} {r : Nega
       record {
         is = λ {st} n.
             let z : Negation (negateBy (suc x) x st) st w′ (passIn held′ q) h held1 held′ y =
-                  subst (λ (o : Negated). AnswersCounted (negateBy (suc x) x st) st w′ q h held1 held′ o) t (call .is q (suc x) (omega arith) (begun n)) in
+            subst (λ (o : Negated). AnswersCounted (negateBy (suc x) x st) st w′ q h held1 held′ o) t (call .is q (suc x) (omega arith) (begun n)) in
             record {
               after = z .after;
               more = z .more;
@@ -509,7 +496,7 @@ module _ {w held held1 w′ held′ : List ℕ} {h x : ℕ} {q : Pass} {r : Nega
               nodes = z .nodes;
               below = z .below;
               kept = λ k lt c d. z .kept k lt c d ∙ counting-other held q e k c d;
-            }
+            };
       }
 
   pub output-refused : {k : ℕ} → r ≡ Refused k → NegatesOutput w held h q x w′ held′ (RefusedG k)
@@ -517,5 +504,5 @@ module _ {w held held1 w′ held′ : List ℕ} {h x : ℕ} {q : Pass} {r : Nega
   output-refused t =
       record {
         is = λ {st} n.
-            subst (λ (o : Negated). AnswersCounted (negateBy (suc x) x st) st w′ q h held1 held′ o) t (call .is q (suc x) (omega arith) (begun n))
+            subst (λ (o : Negated). AnswersCounted (negateBy (suc x) x st) st w′ q h held1 held′ o) t (call .is q (suc x) (omega arith) (begun n));
       }

@@ -10,7 +10,7 @@ use Rattle.cells.specs.Sum.{Sum}
 use Rattle.rules.specs.Ceilings.{mostMembers}
 use Rattle.rules.specs.Plain.{any, filter, contains}
 use Rattle.rules.specs.Types.{Node, State, Out, ok, no, Run, bind, give, is}
-use Rattle.rules.specs.Members.{sole}
+use Rattle.rules.specs.Members.{sole, membersAt}
 use Rattle.rules.specs.Canonicalizer.{should-drop-filler}
 use Rattle.rules.specs.Canonicalizer as rules
 use Rattle.lang_ty.specs.declared.arena.Pass.{Pass}
@@ -41,6 +41,10 @@ pub record Lists (m : Members) (xs : List ℕ) : Type 0 where
 pub record Taken (m : Members) (xs : List ℕ) (k : ℕ) : Type 0 where
   pub list : Few m xs
   pub below : Under k xs
+
+-- the first n cells of ms as members
+abbrev pub firstOf : ℕ → List ℕ → Members
+firstOf n ms = record { count = n; at = ms }
 
 -- r is what f makes of the members of m
 pub record Makes (f : List Node → List ℕ → List ℕ) (w : List ℕ) (m r : Members) : Type 0 where
@@ -74,6 +78,19 @@ pub record Runs (f : List ℕ → Run (List ℕ)) (w : List ℕ) (q : Pass) (m :
 pub record Asks (f : List Node → ℕ → Bool) (w : List ℕ) (x : ℕ) (r : Bool) : Type 0 where
   pub is : {q : Pass} {ns : List Node} → Arena w q ns → x < length ns → r ≡ f ns x
 
+-- r is the answer of the test f on the nodes x and y
+pub record Pairs (f : List Node → ℕ → ℕ → Bool) (w : List ℕ) (x y : ℕ) (r : Bool) : Type 0 where
+  pub is : {q : Pass} {ns : List Node} → Arena w q ns → x < length ns → y < length ns → r ≡ f ns x y
+
+-- r is the answer of the test f on node x beside the members
+pub record Beside (f : List Node → List ℕ → ℕ → Bool) (w ms : List ℕ) (n x : ℕ) (r : Bool) : Type 0 where
+  pub is : {q : Pass} {ns : List Node} {xs : List ℕ} → Arena w q ns → Taken (firstOf n ms) xs (length ns) → x < length ns → r ≡ f ns xs x
+
+-- r are those of m for which the test f beside the members says so
+pub record Sifts (f : List Node → List ℕ → ℕ → Bool) (w ms : List ℕ) (n : ℕ) (m r : Members) : Type 0 where
+  pub is : {q : Pass} {ns : List Node} {xs ys : List ℕ} → Arena w q ns → Taken (firstOf n ms) xs (length ns) → Taken m ys (length ns)
+      → Taken r (filter (f ns xs) ys) (length ns)
+
 -- a refusal, by its number
 pub record Refuses (k : ℕ) (r : Listed) : Type 0 where
   pub is : r .flow ≡ Refused k
@@ -96,6 +113,10 @@ only false x = []
 -- what was gathered, and x behind it where it is to be kept
 pub record KeepsIf (out : List ℕ) (k x : ℕ) (b : Bool) (out′ : List ℕ) (r : ℕ) : Type 0 where
   pub is : {xs : List ℕ} → Gathered out k xs → length xs < mostMembers → Gathered out′ r (xs ++ only b x)
+
+-- the members of node x
+pub record MembersOf (w : List ℕ) (x : ℕ) (r : Members) : Type 0 where
+  pub is : {q : Pass} {ns : List Node} → Arena w q ns → x < length ns → Taken r (membersAt ns x) (length ns)
 
 abbrev pub anyOfKind : ℕ → List Node → List ℕ → Bool
 anyOfKind k ns xs = any (is ns k) xs
@@ -176,11 +197,3 @@ stays p ns x = not (should-drop-filler p ns x)
 
 pub record DropsFillers (table : List ℕ) (f count : ℕ) (w : List ℕ) (m r : Members) : Type 0 where
   pub is : {p : rules.Pass} → Preserves p table f count → Makes (sift (stays p)) w m r
-
--- the first n cells of ms as members
-abbrev pub firstOf : ℕ → List ℕ → Members
-firstOf n ms = record { count = n; at = ms }
-
--- r is the answer of the test f on the nodes x and y
-pub record Pairs (f : List Node → ℕ → ℕ → Bool) (w : List ℕ) (x y : ℕ) (r : Bool) : Type 0 where
-  pub is : {q : Pass} {ns : List Node} → Arena w q ns → x < length ns → y < length ns → r ≡ f ns x y

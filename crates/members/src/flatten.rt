@@ -1,11 +1,11 @@
 // Flattening of nested unions and intersections.
-use cells::at;
-use cells::set;
 use crate::lists::Members;
 use crate::lists::any_of_kind;
 use crate::lists::contains;
-use lang_ty::arena::Pass;
+use cells::at;
+use cells::set;
 use lang_ty::arena;
+use lang_ty::arena::Pass;
 ghost use Rattle.rules.specs.Members.{flatten-composite};
 ghost use Rattle.members.specs.Flattens.{AddsNew, AddsMembers, FlattensOne, Spreads, flattenAll};
 

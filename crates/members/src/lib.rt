@@ -1,4 +1,4 @@
 // Lists of members by value, their nodes by number of the arena; flattening and negation, each under its name in collect.rs.
-pub mod lists;
 pub mod flatten;
+pub mod lists;
 pub mod negate;

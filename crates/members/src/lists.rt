@@ -5,15 +5,15 @@ use cells::get;
 use cells::place;
 use cells::put;
 use cells::set;
+use lang_ty::arena;
 use lang_ty::arena::Given;
 use lang_ty::arena::OutputTy;
 use lang_ty::arena::Pass;
-use lang_ty::arena;
 use lang_ty::disjoint;
 ghost use mathlib.Core.List.{[], _∷_};
 ghost use Rattle.cells.specs.Part.{part};
 ghost use Rattle.rules.specs.Members.{isPositive, isConcrete};
-ghost use Rattle.members.specs.Lists.{Few, Lists, Makes, Tests, Asks, Refuses, Contains, KeepsIf, anyOfKind, ofKind, sift, Soles, Grows, CopiedInto, Joined, AsListed, WithLast, Drops, DropsFillers};
+ghost use Rattle.members.specs.Lists.{Few, Lists, Makes, Tests, Asks, Refuses, Contains, KeepsIf, MembersOf, anyOfKind, ofKind, sift, Soles, Grows, CopiedInto, Joined, AsListed, WithLast, Drops, DropsFillers};
 
 // The first count cells of at; a count above 128 says that there are more than fit.
 pub struct Members {
@@ -94,6 +94,20 @@ pub fn keep_if(out: &mut [u32], k: u32, x: u32, kept: bool) -> u32
     }
     set(out, k, x);
     add(k, 1)
+}
+
+// The members of node x, where it is a union or an intersection.
+pub fn members_of(arena: &[u32], x: u32) -> Members
+    ensures { λ r. ⌜ MembersOf (now (arena .entry)) x r ⌝ }
+{
+    let n = arena::count(arena, x);
+    let mut out = [0u32; 128];
+    let mut i = 0;
+    while i < n {
+        set(&mut out, i, arena::member(arena, x, i));
+        i += 1;
+    }
+    Members { count: n, at: out }
 }
 
 pub fn any_of_kind(arena: &[u32], m: Members, kind: u32) -> bool
@@ -302,7 +316,12 @@ pub fn drop_fillers(arena: &[u32], table: &[u32], f: u32, count: u32, m: Members
     let mut i = 0;
     while i < n {
         let x = at(&ms, i);
-        k = keep_if(&mut out, k, x, !should_drop_filler(arena, table, f, count, x));
+        k = keep_if(
+            &mut out,
+            k,
+            x,
+            !should_drop_filler(arena, table, f, count, x),
+        );
         i += 1;
     }
     Members { count: k, at: out }

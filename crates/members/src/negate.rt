@@ -4,10 +4,10 @@ use cells::at;
 use cells::place;
 use cells::put;
 use cells::set;
+use lang_ty::arena;
 use lang_ty::arena::Given;
 use lang_ty::arena::OutputTy;
 use lang_ty::arena::Pass;
-use lang_ty::arena;
 use layout::WorkSlice;
 ghost use mathlib.Core.Path.{_≡_};
 ghost use Rattle.members.specs.Negations.{counting, Counted, Entered, Turns, StoresNegation, Negates, NegatesOutput};
@@ -58,7 +58,11 @@ fn turned(kind: u32) -> u32
     if kind == OutputTy::UNION {
         return OutputTy::INTERSECTION;
     }
-    if kind == OutputTy::INTERSECTION { OutputTy::UNION } else { OutputTy::NEG }
+    if kind == OutputTy::INTERSECTION {
+        OutputTy::UNION
+    } else {
+        OutputTy::NEG
+    }
 }
 
 // The Neg of node x, or the node of the n negations held from h on.

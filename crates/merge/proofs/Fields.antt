@@ -20,7 +20,7 @@ use Rattle.merge.specs.declared.Next.the-variants.{Old, New, Both}
 use Rattle.merge.specs.Merges.{Rise, fieldAt, Comes, oldTaken, newTaken, nextField, nextKey}
 use Rattle.cells.specs.Placed.{Under}
 
-false-true : {A : Type 0} → false ≡ true → A
+pub false-true : {A : Type 0} → false ≡ true → A
 false-true e = let z : _≡_ {A = ℕ} 0 1 = cc in absurd (omega arith)
 
 -- how far the keys go, and how many there are
@@ -37,19 +37,19 @@ rise-most a b c [] le h = omega arith
 rise-most a b c (f ∷ fs) le h = (h .0, rise-most (suc (f .key)) b c fs le (h .1))
 
 -- what is left from field i on, where k is smaller than its key
-pub rise-skip : (b c : ℕ) {k : ℕ} (fs : List Field) (i : ℕ) → Rise b c (drop i fs) → k < c → (i < length fs → k < (fieldAt fs i) .key) → Rise (suc k) c (drop i fs)
+rise-skip : (b c : ℕ) {k : ℕ} (fs : List Field) (i : ℕ) → Rise b c (drop i fs) → k < c → (i < length fs → k < (fieldAt fs i) .key) → Rise (suc k) c (drop i fs)
 rise-skip b c [] zero h lt e = lt
 rise-skip b c [] (suc i) h lt e = lt
 rise-skip b c (f ∷ fs) zero h lt e = (e (omega arith), h .1)
 rise-skip b c (f ∷ fs) (suc i) h lt e = rise-skip b c fs i h lt (λ l. e (omega arith))
 
-pub rise-next : (b c : ℕ) (fs : List Field) (i : ℕ) → Rise b c (drop i fs) → i < length fs → Rise (suc ((fieldAt fs i) .key)) c (drop (suc i) fs)
+rise-next : (b c : ℕ) (fs : List Field) (i : ℕ) → Rise b c (drop i fs) → i < length fs → Rise (suc ((fieldAt fs i) .key)) c (drop (suc i) fs)
 rise-next b c fs i h lt = subst (Rise b c) (drop-cons fs i (record { key = 0; type = 0 }) lt) h .1
 
-pub rise-from : (b c : ℕ) (fs : List Field) (i : ℕ) → Rise b c (drop i fs) → i < length fs → b ≤ (fieldAt fs i) .key
+rise-from : (b c : ℕ) (fs : List Field) (i : ℕ) → Rise b c (drop i fs) → i < length fs → b ≤ (fieldAt fs i) .key
 rise-from b c fs i h lt = subst (Rise b c) (drop-cons fs i (record { key = 0; type = 0 }) lt) h .0
 
-pub rise-below : (b c : ℕ) (fs : List Field) (i : ℕ) → Rise b c (drop i fs) → i < length fs → (fieldAt fs i) .key < c
+rise-below : (b c : ℕ) (fs : List Field) (i : ℕ) → Rise b c (drop i fs) → i < length fs → (fieldAt fs i) .key < c
 rise-below b c fs i h lt = omega (arith, rise-length (suc ((fieldAt fs i) .key)) c (drop (suc i) fs) (rise-next b c fs i h lt))
 
 -- a set's fields are such a list
@@ -81,8 +81,8 @@ module _ (f : Field) (gs : List Field) (st : State) where
   past a b (g ∷ ds) h le =
       let l = rise-length (suc (g .key)) b ds (h .1) in
       ap₂ (λ (x y : Bool). (if x (λ _. give (f ∷ g ∷ (ds ++ gs)))
-        (λ _. if y (λ _ s. bind (meetTypes (g .type) (f .type) s) (λ x. give (record { key = g .key; type = x } ∷ (ds ++ gs))))
-        (λ _ s. bind (mergeField f (ds ++ gs) s) (λ hs. give (g ∷ hs))))) st)
+      (λ _. if y (λ _ s. bind (meetTypes (g .type) (f .type) s) (λ x. give (record { key = g .key; type = x } ∷ (ds ++ gs))))
+      (λ _ s. bind (mergeField f (ds ++ gs) s) (λ hs. give (g ∷ hs))))) st)
       (le-ltb (f .key) (g .key) (omega arith)) (ne-eqb (f .key) (g .key) (λ e. omega arith))
       ∙ ap (λ (o : Out (List Field)). bind o (λ hs. give (g ∷ hs))) (past (suc (g .key)) b ds (h .1) le)
       ∙ past-bind g ds (mergeField f gs st)
@@ -92,8 +92,8 @@ pub first : (f : Field) (c : ℕ) (gs : List Field) (st : State) → Rise (suc (
 first f c [] st h = refl
 first f c (g ∷ gs) st h =
     ap (λ (x : Bool). (if x (λ _. give (f ∷ g ∷ gs))
-      (λ _. if (eqb (f .key) (g .key)) (λ _ s. bind (meetTypes (g .type) (f .type) s) (λ x. give (record { key = g .key; type = x } ∷ gs)))
-      (λ _ s. bind (mergeField f gs s) (λ hs. give (g ∷ hs))))) st)
+    (λ _. if (eqb (f .key) (g .key)) (λ _ s. bind (meetTypes (g .type) (f .type) s) (λ x. give (record { key = g .key; type = x } ∷ gs)))
+    (λ _ s. bind (mergeField f gs s) (λ hs. give (g ∷ hs))))) st)
     (lt-ltb (f .key) (g .key) (h .0))
 
 -- of one key with the first of these, it is met
@@ -101,8 +101,8 @@ pub met : (f g : Field) (gs : List Field) (st : State) → g .key ≡ f .key
     → mergeField f (g ∷ gs) st ≡ bind (meetTypes (g .type) (f .type) st) (λ x. give (record { key = g .key; type = x } ∷ gs))
 met f g gs st e =
     ap₂ (λ (x y : Bool). (if x (λ _. give (f ∷ g ∷ gs))
-      (λ _. if y (λ _ s. bind (meetTypes (g .type) (f .type) s) (λ x. give (record { key = g .key; type = x } ∷ gs)))
-      (λ _ s. bind (mergeField f gs s) (λ hs. give (g ∷ hs))))) st)
+    (λ _. if y (λ _ s. bind (meetTypes (g .type) (f .type) s) (λ x. give (record { key = g .key; type = x } ∷ gs)))
+    (λ _ s. bind (mergeField f gs s) (λ hs. give (g ∷ hs))))) st)
     (le-ltb (f .key) (g .key) (omega arith)) (eq-eqb (f .key) (g .key) (sym e))
 
 -- one step of the sweep: ds are merged, i of fs and j of gs are taken

@@ -19,7 +19,7 @@ use Rattle.rules.specs.Types.{State, Out, ok, no, Run, bind, give, Intersection
 use Rattle.rules.specs.Types as rules
 use Rattle.rules.specs.Members.{meetTypes, mergeFields}
 use Rattle.laws.proofs.Rows.{field-words-length, key-read, type-read}
-use Rattle.laws.proofs.Storing.{store-keeps}
+use Rattle.laws.proofs.Keeping.{Keeps, keeps-if, keeps-give, keeps-store}
 use Rattle.lang_ty.specs.declared.arena.Pass.{Pass}
 use Rattle.lang_ty.specs.declared.arena.Given.{Given}
 use Rattle.lang_ty.specs.declared.arena.Given.the-variants.{Node as NodeG, Refused as RefusedN}
@@ -34,23 +34,12 @@ use Rattle.merge.specs.declared.Merged.the-variants.{On, Refused}
 use Rattle.merge.specs.declared.Next.{Next}
 use Rattle.merge.specs.declared.Next.the-variants.{Old, New, Both}
 use Rattle.merge.specs.Merges.{Rise, fieldAt, Meets, putAt, PutsField, HeldKey, HeldType, Comes, ComesNext, oldTaken, newTaken, nextField, nextKey, FieldPut, AnswersField, MergesField, GoesOn, Got, fieldsAt, SetNode, Free, MergesFields}
-use Rattle.laws.proofs.Filtering.{under-at, under-most}
-use Rattle.merge.proofs.Fields.{rise-length, rise-snoc, rise-most, sweep, sweep-from, sweep-left, sweep-right, sweep-few}
+use Rattle.laws.proofs.Filtering.{under-at, under-most, under-front}
+use Rattle.merge.proofs.Fields.{false-true, rise-length, rise-snoc, rise-most, sweep, sweep-from, sweep-left, sweep-right, sweep-few}
 use Rattle.cells.specs.Placed.{Holds, Under}
 use mathlib.Core.Option.{Option, none, some}
 
-true-false : {A : Type 0} → false ≡ true → A
-true-false e = let z : _≡_ {A = ℕ} 0 1 = cc in absurd (omega arith)
-
-pub under-left : (k : ℕ) (xs ys : List ℕ) → Under k (xs ++ ys) → Under k xs
-under-left k [] ys h = tt
-under-left k (x ∷ xs) ys h = (h .0, under-left k xs ys (h .1))
-
-pub under-right : (k : ℕ) (xs ys : List ℕ) → Under k (xs ++ ys) → Under k ys
-under-right k [] ys h = h
-under-right k (x ∷ xs) ys h = under-right k xs ys (h .1)
-
-pub types-more : (k : ℕ) (fs : List Field) (f : Field) → Under k (fieldTypes fs) → f .type < k → Under k (fieldTypes (fs ++ (f ∷ [])))
+types-more : (k : ℕ) (fs : List Field) (f : Field) → Under k (fieldTypes fs) → f .type < k → Under k (fieldTypes (fs ++ (f ∷ [])))
 types-more k [] f h lt = (lt, tt)
 types-more k (g ∷ gs) f h lt = (h .0, types-more k gs f (h .1) lt)
 
@@ -67,15 +56,15 @@ words-snoc (g ∷ gs) f = ap (λ (l : List ℕ). g .key ∷ g .type ∷ l) (word
 or-right : (a b : Bool) {A : Type 0} (x y : A) → b ≡ true → if (a || b) (λ _. x) (λ _. y) ≡ x
 or-right true b x y e = refl
 or-right false true x y e = refl
-or-right false false x y e = true-false e
+or-right false false x y e = false-true e
 
 or-left : (a b : Bool) {A : Type 0} (x y : A) → a ≡ true → if (a || b) (λ _. x) (λ _. y) ≡ x
 or-left true b x y e = refl
-or-left false b x y e = true-false e
+or-left false b x y e = false-true e
 
 or-none : (a b : Bool) {A : Type 0} (x y : A) → a ≡ false → b ≡ false → if (a || b) (λ _. x) (λ _. y) ≡ y
-or-none true b x y e f = true-false (sym e)
-or-none false true x y e f = true-false (sym f)
+or-none true b x y e f = false-true (sym e)
+or-none false true x y e f = false-true (sym f)
 or-none false false x y e f = refl
 
 module _ {w : List ℕ} {q : Pass} {new : ℕ} where
@@ -87,7 +76,7 @@ module _ {w : List ℕ} {q : Pass} {old new : ℕ} where
   meets-same e =
       record {
         is = λ {st} on lo ln.
-            given on ln (ap (λ (m : Run ℕ). m st) (or-right (is (st .nodes) 0 old) (eqb old new) (give new) (store (Intersection (old ∷ new ∷ []))) (eq-eqb old new e)))
+            given on ln (ap (λ (m : Run ℕ). m st) (or-right (is (st .nodes) 0 old) (eqb old new) (give new) (store (Intersection (old ∷ new ∷ []))) (eq-eqb old new e)));
       }
 
   module _ {c : Bool} (var : Is w 0 old c) where
@@ -97,7 +86,7 @@ module _ {w : List ℕ} {q : Pass} {old new : ℕ} where
           is = λ {st} on lo ln.
               given on ln
               (ap (λ (m : Run ℕ). m st) (or-left (is (st .nodes) 0 old) (eqb old new) (give new) (store (Intersection (old ∷ new ∷ [])))
-              (sym (var .is (on .arena) (omega (arith, on .arena .count))) ∙ e)))
+              (sym (var .is (on .arena) (omega (arith, on .arena .count))) ∙ e)));
         }
 
     pub meets-both : {w′ : List ℕ} {r : Given} → c ≡ false → (old ≡ new → ⊥) → Stored (6 ∷ 2 ∷ old ∷ new ∷ []) 2 w q w′ r → Meets w q old new w′ r
@@ -107,24 +96,12 @@ module _ {w : List ℕ} {q : Pass} {old new : ℕ} where
               answers-of
               (ap (λ (m : Run ℕ). m st) (or-none (is (st .nodes) 0 old) (eqb old new) (give new) (store (Intersection (old ∷ new ∷ [])))
               (sym (var .is (on .arena) (omega (arith, on .arena .count))) ∙ e) (ne-eqb old new f)))
-              (stored-intersection on h lo ln)
+              (stored-intersection on h lo ln);
         }
 
 -- what meeting leaves: nodes only added at the end
-pub record Longer (st st′ : State) : Type 0 where
-  pub more : List rules.Node
-  pub nodes : st′ .nodes ≡ st .nodes ++ more
-
-pub longer-none : (st : State) → Longer st st
-longer-none st = record { more = []; nodes = sym (append-nil (st .nodes)) }
-
-met-turn : (b : Bool) (old new x : ℕ) (st st′ : State) → (if b (λ _. give new) (λ _. store (Intersection (old ∷ new ∷ [])))) st ≡ ok x st′ → Longer st st′
-met-turn true old new x st st′ e = let z : st ≡ st′ = cc in subst (Longer st) z (longer-none st)
-met-turn false old new x st st′ e =
-    let k = store-keeps (Intersection (old ∷ new ∷ [])) st x st′ e in record { more = k .grows .more; nodes = k .grows .nodes }
-
-met-longer : (old new x : ℕ) (st st′ : State) → meetTypes old new st ≡ ok x st′ → Longer st st′
-met-longer old new x st st′ e = met-turn (is (st .nodes) 0 old || eqb old new) old new x st st′ e
+met-later : (old new : ℕ) → Keeps (meetTypes old new)
+met-later old new st = keeps-if (is (st .nodes) 0 old || eqb old new) _ _ (keeps-give new) (keeps-store (Intersection (old ∷ new ∷ [])) tt) st
 
 -- `put_field`, `held_key` and `held_type`
 pub puts-field : {held held1 held2 : List ℕ} {a i j p l m o key ty : ℕ} → Sum i i j → p ≡ a + j → held1 ≡ set held p key → Sum i i l → Sum l 1 m → o ≡ a + m → held2 ≡ set held1 o ty
@@ -149,7 +126,7 @@ module _ {held : List ℕ} {a i j p r : ℕ} (one : Sum i i j) where
         is = λ fs h few lt.
             let x = one .is (omega arith) in
             let u : p ≡ a + 2 * i = omega arith in
-            f ∙ ap (cell held) u ∙ key-read fs i h lt ∙ List·getD-map (λ (g : Field). g .key) fs i (record { key = 0; type = 0 })
+            f ∙ ap (cell held) u ∙ key-read fs i h lt ∙ List·getD-map (λ (g : Field). g .key) fs i (record { key = 0; type = 0 });
       }
 
   pub held-type-is : {m : ℕ} → Sum j 1 m → p ≡ a + m → r ≡ cell held p → HeldType held a i r
@@ -159,7 +136,7 @@ module _ {held : List ℕ} {a i j p r : ℕ} (one : Sum i i j) where
             let x = one .is (omega arith) in
             let y = two .is (omega arith) in
             let u : p ≡ a + 2 * i + 1 = omega arith in
-            f ∙ ap (cell held) u ∙ type-read fs i h lt ∙ List·getD-map (λ (g : Field). g .type) fs i (record { key = 0; type = 0 })
+            f ∙ ap (cell held) u ∙ type-read fs i h lt ∙ List·getD-map (λ (g : Field). g .type) fs i (record { key = 0; type = 0 });
       }
 
 key-at : {w : List ℕ} {p j r : ℕ} {t : Attr} → Key w p j r → SetAt w p t → j < length (t .fields) → r ≡ (fieldAt (t .fields) j) .key
@@ -183,7 +160,7 @@ module _ {w held : List ℕ} {a i n s j m : ℕ} where
           is = λ fs {t} at h few e f left.
               let x = ko .is fs h few (omega arith) in
               let y = key-at kn at (omega arith) in
-              (omega arith, λ l. omega arith)
+              (omega arith, λ l. omega arith);
         }
 
     pub next-old : old < new → ComesNext w held a i n s j m Old
@@ -192,7 +169,7 @@ module _ {w held : List ℕ} {a i n s j m : ℕ} where
           is = λ fs {t} at h few e f left.
               let x = ko .is fs h few (omega arith) in
               let y = key-at kn at (omega arith) in
-              (omega arith, λ l. omega arith)
+              (omega arith, λ l. omega arith);
         }
 
     pub next-both : old ≤ new → new ≤ old → ComesNext w held a i n s j m Both
@@ -201,7 +178,7 @@ module _ {w held : List ℕ} {a i n s j m : ℕ} where
           is = λ fs {t} at h few e f left.
               let x = ko .is fs h few (omega arith) in
               let y = key-at kn at (omega arith) in
-              (omega arith, omega arith, omega arith)
+              (omega arith, omega arith, omega arith);
         }
 
 -- `merge_field`
@@ -266,7 +243,7 @@ module _ {w held w′ : List ℕ} {q : Pass} {next : Next} {a i p j old new : �
         kept = put .kept;
         is = λ {st} fs {t = v} on at h few lo ln c lt.
             let a = gives (meeting-of fs on at h few lo ln c) f in
-            let l = met-longer ((fieldAt fs i) .type) ((fieldAt (v .fields) j) .type) x st (a .after) (a .is) in
+            let l = met-later ((fieldAt fs i) .type) ((fieldAt (v .fields) j) .type) st x (a .after) (a .is) in
             record {
               after = a .after;
               more = l .more;
@@ -292,10 +269,10 @@ module _ {w held w′ : List ℕ} {q : Pass} {next : Next} {a i p j old new : �
 -- `goes_on`
 module _ {k most i n j m : ℕ} where
   pub goes-full : most ≤ k → GoesOn k most i n j m false
-  goes-full le = record { some = λ e. true-false e; none = λ e. inl le }
+  goes-full le = record { some = λ e. false-true e; none = λ e. inl le }
 
   pub goes-old : k < most → i < n → GoesOn k most i n j m true
-  goes-old lt l = record { some = λ e. (lt, inl l); none = λ e. true-false (sym e) }
+  goes-old lt l = record { some = λ e. (lt, inl l); none = λ e. false-true (sym e) }
 
   pub goes-new : {r : Bool} → k < most → n ≤ i → r ≡ ltb j m → GoesOn k most i n j m r
   goes-new lt le z = record { some = λ e. (lt, inr (ltb-true j m (sym z ∙ e))); none = λ e. inr (le, ltb-false j m (sym z ∙ e)) }
@@ -416,7 +393,7 @@ module _ {w₀ held₀ : List ℕ} {p : Pass} {g : Merging} {x b : ℕ} {w held 
     t-types : Under (q .nodes) (fieldTypes (t .fields))
     t-types =
         under-most x (q .nodes) (fieldTypes (t .fields)) (omega (arith, known, mid .stands .arena .count))
-        (under-left x (fieldTypes (t .fields)) (dynIds (t .dyn))
+        (under-front x (fieldTypes (t .fields)) (dynIds (t .dyn))
         (subst (λ (n : rules.Node). Under x (children n)) node-now (mid .stands .arena .below x known)))
 
     comes : {r : ℕ} {next : Next} → SetPlace w x r → ComesNext w held (g .area) i (g .fields) r j m next → (i < g .fields) ⊎ (j < m) → Comes next fs i (t .fields) j
@@ -489,7 +466,7 @@ module _ {w₀ held₀ : List ℕ} {p : Pass} {g : Merging} {x b : ℕ} {w held 
     answered : {st : State} {fs : List Field} {d : Option ℕ} {t : Attr} (up : Stands st w₀ p) (got : Got held₀ g fs d (p .nodes)) (node : SetNode st p x t)
         (free : Free held₀ (g .area) b)
         → AnswersField (nextField next (fieldAt fs i) (fieldAt (t .fields) j) (mid up got node free .now)) (nextKey next (fieldAt fs i) (fieldAt (t .fields) j))
-          (mid up got node free .now) w′ held held′ b k flow
+        (mid up got node free .now) w′ held held′ b k flow
     answered {fs = fs} {t = t} up got node free =
         let z = comes up got node free place c (on .some e .1) in
         call .is fs (mid up got node free .stands) (set-now up got node free place) (mid up got node free .olds) (fs-few up got node free)
@@ -505,9 +482,9 @@ module _ {w₀ held₀ : List ℕ} {p : Pass} {g : Merging} {x b : ℕ} {w held 
           is = λ {st} {fs} {d} {t} up got node free.
               let z = comes up got node free place c (on .some e .1) in
               let put : FieldPut (nextField next (fieldAt fs i) (fieldAt (t .fields) j) (mid up got node free .now)) (nextKey next (fieldAt fs i) (fieldAt (t .fields) j))
-                    (mid up got node free .now) w′ held held′ b k q′ =
-                    subst (λ (o : Flow). AnswersField (nextField next (fieldAt fs i) (fieldAt (t .fields) j) (mid up got node free .now)) (nextKey next (fieldAt fs i) (fieldAt (t .fields) j))
-                    (mid up got node free .now) w′ held held′ b k o) f (answered up got node free) in
+              (mid up got node free .now) w′ held held′ b k q′ =
+              subst (λ (o : Flow). AnswersField (nextField next (fieldAt fs i) (fieldAt (t .fields) j) (mid up got node free .now)) (nextKey next (fieldAt fs i) (fieldAt (t .fields) j))
+              (mid up got node free .now) w′ held held′ b k o) f (answered up got node free) in
               let new = swept up got node free next z put in
               let a : i′ ≡ i + oldTaken next = su .is (omega (arith, new .few-old, fs-few up got node free)) ∙ ap (λ (n : ℕ). i + n) eu in
               let b′ : j′ ≡ j + newTaken next = sv .is (omega (arith, new .few-new, t-few up got node free)) ∙ ap (λ (n : ℕ). j + n) ev in
@@ -538,8 +515,8 @@ module _ {w₀ held₀ : List ℕ} {p : Pass} {g : Merging} {x b : ℕ} {w held 
             let few′ = t-few on got node free in
             let most-is : most ≡ g .fields + m = sum .is (omega (arith, got .count)) in
             let ends : (length fs ≤ i) × (length (t .fields) ≤ j) =
-                  ⊎-elim (λ l. (omega (arith, z .few, z .few-old, z .few-new, got .count), omega (arith, z .few, z .few-old, z .few-new, got .count)))
-                  (λ l. (omega (arith, l .0, got .count), omega (arith, l .1))) (goes-on .none e) in
+            ⊎-elim (λ l. (omega (arith, z .few, z .few-old, z .few-new, got .count), omega (arith, z .few, z .few-old, z .few-new, got .count)))
+            (λ l. (omega (arith, l .0, got .count), omega (arith, l .1))) (goes-on .none e) in
             record {
               after = z .now;
               more = z .more;

@@ -34,10 +34,9 @@ use Rattle.merge.specs.declared.Merged.{Merged}
 use Rattle.merge.specs.declared.Merged.the-variants.{On, Refused}
 use Rattle.members.specs.Lists.{Taken, firstOf}
 use Rattle.merge.specs.Merges.{Roomy, Got, dynAt, SetNode, Free, AnswersFields, MergesFields, DynGot, AnswersDyn, MergesDyn, OtherArea, Then, Arrived, AnswersMerged, MergesOne, AllSets, MergesAll}
-use Rattle.laws.proofs.Filtering.{under-at, under-most}
+use Rattle.laws.proofs.Filtering.{under-at, under-most, under-back}
 use Rattle.members.proofs.Gathered.{few-at, few-below}
 use Rattle.merge.proofs.Fields.{rise-of}
-use Rattle.merge.proofs.MergeFields.{under-right}
 use Rattle.cells.specs.Placed.{Under}
 use mathlib.Core.Option.{Option, none, some}
 
@@ -99,7 +98,7 @@ module _ {w : List ℕ} {q : Pass} {g : Merging} {p n : ℕ} (has : Dyns w p n) 
               stands = on;
               got = got;
               area = refl;
-            }
+            };
       }
 
   module _ {new : ℕ} (filled : n ≡ 0 → ⊥) (ty : DynType w p new) where
@@ -129,7 +128,7 @@ module _ {w : List ℕ} {q : Pass} {g : Merging} {p n : ℕ} (has : Dyns w p n) 
           record {
             is = λ held {st} {fs} {d} {t} on got at low.
                 let l : 0 < length (dynIds d) = omega (arith, got .dyns, old) in
-                dyn-taken f on got at low (merge-same st d (t .dyn) l (dyn-there has filled at) (sym (got .dyn l) ∙ e ∙ ty .is at (dyn-there has filled at)))
+                dyn-taken f on got at low (merge-same st d (t .dyn) l (dyn-there has filled at) (sym (got .dyn l) ∙ e ∙ ty .is at (dyn-there has filled at)));
           }
 
       module _ {w′ : List ℕ} {r : Given} (e : g .«dyn_type» ≡ new → ⊥) (h : Stored (6 ∷ 2 ∷ g .«dyn_type» ∷ new ∷ []) 2 w q w′ r) where
@@ -175,7 +174,7 @@ module _ {w : List ℕ} {q : Pass} {g : Merging} {p n : ℕ} (has : Dyns w p n) 
         dyn-refused f =
             record {
               is = λ held {st} {fs} {d} {t} on got at low.
-                  both-is st got at ∙ ap (λ (o : Out ℕ). bind o (λ v. give (some v))) (refuses (both-stored on got at low) f)
+                  both-is st got at ∙ ap (λ (o : Out ℕ). bind o (λ v. give (some v))) (refuses (both-stored on got at low) f);
             }
 
 -- `other_area`
@@ -209,7 +208,7 @@ module _ {w : List ℕ} {q : Pass} {g : Merging} {x p : ℕ} {w1 : List ℕ} {fi
       let lt = node .known in
       call1 .is held on got (place .is (on .arena) (omega arith) (node .node))
       (under-most x (q .nodes) (dynIds (t .dyn)) (omega arith)
-      (under-right x (fieldTypes (t .fields)) (dynIds (t .dyn))
+      (under-back x (fieldTypes (t .fields)) (dynIds (t .dyn))
       (subst (λ (n : rules.Node). Under x (children n)) (node .node) (on .arena .below x (omega arith)))))
 
   pub one-refused : {held : List ℕ} {h k : ℕ} → first ≡ Refused k → MergesOne w held h q g x w1 held (Refused k)

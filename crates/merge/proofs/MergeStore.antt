@@ -9,7 +9,7 @@ use mathlib.Core.List.{List, [], _∷_, _++_, append-nil}
 use lib.ListN.{length, getD, take, drop, set, length-set, length-append, length-map, drop-of-length-le, List·getD-map, List·getD-append}
 use lib.Seq.{getD-set-same, getD-set-other, take-all, length-take-le, append-snoc}
 use lib.Dec.{eqb}
-use borrow.Author.Tests.{eqb-true, eqb-false, eq-eqb, ne-eqb, not-true, not-false}
+use borrow.Author.Tests.{eqb-true, eqb-false, not-true, not-false}
 use Rattle.cells.specs.Part.{cell, part, if}
 use Rattle.cells.specs.Sum.{Sum}
 use Rattle.cells.proofs.Holding.{holds-none, holds-place, holds-cons, holds-both, holds-ext}
@@ -19,7 +19,7 @@ use Rattle.rules.specs.Table.{Field, Attr, fieldKeys, fieldTypes, dynIds}
 use Rattle.rules.specs.Types.{State, Out, bind, give, TyVar, Primitive, ListOf, Lambda, AttrSet, Union, Intersection, Named, Neg, Bottom, Top, fieldWords, dynWords, kindOf, nodeAt, asAttr, store}
 use Rattle.rules.specs.Types as rules
 use Rattle.rules.specs.Members.{mergeAttrs, optionalInAll, openIfAll, attrOf, attrsOf, merge-attrset-intersection}
-use Rattle.laws.proofs.Rows.{field-words-length, dyn-words-length}
+use Rattle.laws.proofs.Rows.{field-words-length, dyn-words-length, few-dyns}
 use Rattle.laws.proofs.Storing.{store-keeps}
 use Rattle.lang_ty.specs.declared.arena.Pass.{Pass}
 use Rattle.lang_ty.specs.declared.arena.Given.{Given}
@@ -38,7 +38,9 @@ use Rattle.merge.specs.declared.Merging.{Merging}
 use Rattle.merge.specs.declared.Merged.{Merged}
 use Rattle.merge.specs.declared.Merged.the-variants.{On, Refused}
 use Rattle.members.specs.Lists.{Few, Taken, Makes, ofKind, sift, Refuses, WithLast, AnswersFlow, Answers, firstOf}
-use Rattle.merge.specs.Merges.{MergesSets, HeldKey, Got, Then, Arrived, AnswersMerged, AllSets, MergesAll, allowed, Allows, OptionalInAll, OpenIfAll, frontWords, WritesFields, PutsIf, optionalKeys, WritesOptional, mergedNode, StoresMerged, MergedLast}
+use Rattle.merge.specs.declared.SetTest.{SetTest}
+use Rattle.merge.specs.declared.SetTest.the-variants.{Allows as AllowsT, Open as OpenT}
+use Rattle.merge.specs.Merges.{MergesSets, HeldKey, Got, Then, Arrived, AnswersMerged, AllSets, MergesAll, allowed, opened, setTest, Passes, AllPass, OpenIfAll, frontWords, WritesFields, PutsIf, optionalKeys, WritesOptional, mergedNode, StoresMerged, MergedLast}
 use Rattle.laws.proofs.Filtering.{filter-take, filter-length, under-at, under-both, under-most}
 use Rattle.members.proofs.Gathered.{few-at, few-below}
 use Rattle.merge.proofs.Fields.{rise-length}
@@ -52,74 +54,67 @@ pub record Testing (f : Attr → Bool) (w ms : List ℕ) (n i : ℕ) : Type 0 wh
   pub few : i ≤ n
   pub is : {q : Pass} {ns : List rules.Node} {xs : List ℕ} → Arena w q ns → Taken (firstOf n ms) xs (length ns) → AllSets ns xs → all f (attrsOf ns (drop i xs)) ≡ all f (attrsOf ns xs)
 
-pub record TestAt (f : Attr → Bool) (w : List ℕ) (a : ℕ) (b : Bool) : Type 0 where
-  pub is : {t : Attr} → SetAt w a t → b ≡ f t
-
 module _ {f : Attr → Bool} {w ms : List ℕ} {n : ℕ} where
   pub testing-start : Testing f w ms n 0
   testing-start = record { few = omega arith; is = λ h m a. refl }
 
-  module _ {i y p : ℕ} {b : Bool} (c : Testing f w ms n i) (lt : i < n) (e : y ≡ cell ms i) (place : SetPlace w y p) (t : TestAt f w p b) where
+  module _ {i y p : ℕ} {b : Bool} (c : Testing f w ms n i) (lt : i < n) (e : y ≡ cell ms i) (place : SetPlace w y p) (t : Passes f w p b) where
     tested : {q : Pass} {ns : List rules.Node} {xs : List ℕ} → Arena w q ns → Taken (firstOf n ms) xs (length ns) → AllSets ns xs
         → if b (λ _. all f (attrsOf ns (drop (i + 1) xs))) (λ _. false) ≡ all f (attrsOf ns xs)
     tested {ns = ns} {xs = xs} h m a =
         let l : i < length xs = omega (arith, m .list .count) in
         let at : SetAt w p (setAt ns xs i) =
-              place .is h (few-below m e lt) (ap (nodeAt ns) (few-at (m .list) e lt) ∙ set-of (nodeAt ns (getD xs i 0)) (a .is i l)) in
+        place .is h (few-below m e lt) (ap (nodeAt ns) (few-at (m .list) e lt) ∙ set-of (nodeAt ns (getD xs i 0)) (a .is i l)) in
         ap (λ (v : Bool). if v (λ _. all f (attrsOf ns (drop (i + 1) xs))) (λ _. false)) (t .is at)
         ∙ sym (ap (all f) (attrs-drop ns xs i a l))
         ∙ c .is h m a
 
-    testing-more : b ≡ true → Testing f w ms n (i + 1)
+    pub testing-more : not b ≡ false → Testing f w ms n (i + 1)
     testing-more z =
         record {
           few = omega arith;
-          is = λ {q} {ns} {xs} h m a. ap (λ (v : Bool). if v (λ _. all f (attrsOf ns (drop (i + 1) xs))) (λ _. false)) (sym z) ∙ tested h m a;
+          is = λ {q} {ns} {xs} h m a. ap (λ (v : Bool). if v (λ _. all f (attrsOf ns (drop (i + 1) xs))) (λ _. false)) (sym (not-false b z)) ∙ tested h m a;
         }
 
-    testing-here : {q : Pass} {ns : List rules.Node} {xs : List ℕ} → b ≡ false → Arena w q ns → Taken (firstOf n ms) xs (length ns) → AllSets ns xs → false ≡ all f (attrsOf ns xs)
-    testing-here {ns = ns} {xs = xs} z h m a = ap (λ (v : Bool). if v (λ _. all f (attrsOf ns (drop (i + 1) xs))) (λ _. false)) (sym z) ∙ tested h m a
+    pub testing-fails : not b ≡ true → AllPass f w ms n false
+    testing-fails z =
+        record { is = λ {q} {ns} {xs} h m a. ap (λ (v : Bool). if v (λ _. all f (attrsOf ns (drop (i + 1) xs))) (λ _. false)) (sym (not-true b z)) ∙ tested h m a }
 
-  testing-done : {i : ℕ} {q : Pass} {ns : List rules.Node} {xs : List ℕ} → Testing f w ms n i → n ≤ i → Arena w q ns → Taken (firstOf n ms) xs (length ns) → AllSets ns xs
-      → true ≡ all f (attrsOf ns xs)
-  testing-done {i} {ns = ns} {xs = xs} c le h m a = sym (ap (λ (l : List ℕ). all f (attrsOf ns l)) (drop-of-length-le xs {i = i} (omega (arith, m .list .count)))) ∙ c .is h m a
+  pub testing-done : {i : ℕ} → Testing f w ms n i → n ≤ i → AllPass f w ms n true
+  testing-done {i} c le =
+      record {
+        is = λ {q} {ns} {xs} h m a.
+            sym (ap (λ (l : List ℕ). all f (attrsOf ns l)) (drop-of-length-le xs {i = i} (omega (arith, m .list .count)))) ∙ c .is h m a;
+      }
 
--- `allows` and `optional_in_all`
+-- `allows` and `passes`
 module _ {w : List ℕ} {a key : ℕ} {c : Bool} (has : HasField w a key c) where
-  pub allows-lacks : not c ≡ true → Allows w a key true
+  pub allows-lacks : not c ≡ true → Passes (allowed key) w a true
   allows-lacks e = record { is = λ {t} at. sym (ap (λ (v : Bool). not v || contains (t .optional) key) (sym (has .is at) ∙ not-true c e)) }
 
-  pub allows-has : {r : Bool} → not c ≡ false → HasOptional w a key r → Allows w a key r
+  pub allows-has : {r : Bool} → not c ≡ false → HasOptional w a key r → Passes (allowed key) w a r
   allows-has e o = record { is = λ {t} at. o .is at ∙ sym (ap (λ (v : Bool). not v || contains (t .optional) key) (sym (has .is at) ∙ not-false c e)) }
 
-module _ {w ms : List ℕ} {n key i : ℕ} (c : Testing (allowed key) w ms n i) where
-  module _ {y p : ℕ} {b : Bool} (lt : i < n) (e : y ≡ cell ms i) (place : SetPlace w y p) (t : Allows w p key b) where
-    pub optional-not : not b ≡ true → OptionalInAll w ms n key false
-    optional-not z = record { is = λ h m a. testing-here c lt e place (record { is = t .is }) (not-true b z) h m a }
+module _ {t : SetTest} {w : List ℕ} {a : ℕ} {r : Bool} where
+  passes-by : {u : SetTest} → t ≡ u → Passes (setTest u) w a r → Passes (setTest t) w a r
+  passes-by e h = subst (λ (v : SetTest). Passes (setTest v) w a r) (sym e) h
 
-    pub optional-more : not b ≡ false → Testing (allowed key) w ms n (i + 1)
-    optional-more z = testing-more c lt e place (record { is = t .is }) (not-false b z)
+  pub passes-allows : {key : ℕ} → t ≡ AllowsT key → Passes (allowed key) w a r → Passes (setTest t) w a r
+  passes-allows e h = passes-by e h
 
-  pub optional-done : n ≤ i → OptionalInAll w ms n key true
-  optional-done le = record { is = λ h m a. testing-done c le h m a }
+  pub passes-open : {o : ℕ} → t ≡ OpenT → Open w a o → r ≡ eqb o 1 → Passes (setTest t) w a r
+  passes-open e h z = passes-by e (record { is = λ at. z ∙ ap (λ (v : ℕ). eqb v 1) (h .is at) })
 
 -- `open_if_all`
-abbrev pub opened : Attr → Bool
-opened t = eqb (t .isOpen) 1
+module _ {w ms : List ℕ} {n : ℕ} {b : Bool} (c : AllPass opened w ms n b) where
+  open-by : {d : Bool} → b ≡ d → OpenIfAll w ms n (if d (λ _. 1) (λ _. 0))
+  open-by e = record { is = λ h m a. ap (λ (v : Bool). if v (λ _. 1) (λ _. 0)) (sym e ∙ c .is h m a) }
 
-module _ {w ms : List ℕ} {n i : ℕ} (c : Testing opened w ms n i) where
-  module _ {y p o : ℕ} (lt : i < n) (e : y ≡ cell ms i) (place : SetPlace w y p) (t : Open w p o) where
-    flag-at : TestAt opened w p (eqb o 1)
-    flag-at = record { is = λ at. ap (λ (v : ℕ). eqb v 1) (t .is at) }
+  pub open-all : b ≡ true → OpenIfAll w ms n 1
+  open-all e = open-by e
 
-    pub open-not : (o ≡ 1 → ⊥) → OpenIfAll w ms n 0
-    open-not z = record { is = λ h m a. ap (λ (v : Bool). if v (λ _. 1) (λ _. 0)) (testing-here c lt e place flag-at (ne-eqb o 1 z) h m a) }
-
-    pub open-more : o ≡ 1 → Testing opened w ms n (i + 1)
-    open-more z = testing-more c lt e place flag-at (eq-eqb o 1 z)
-
-  pub open-done : n ≤ i → OpenIfAll w ms n 1
-  open-done le = record { is = λ h m a. ap (λ (v : Bool). if v (λ _. 1) (λ _. 0)) (testing-done c le h m a) }
+  pub open-not : b ≡ false → OpenIfAll w ms n 0
+  open-not e = open-by e
 
 -- `write_fields`
 words-none : (d : Option ℕ) → length (dynIds d) ≡ 0 → dynWords d ≡ 0 ∷ []
@@ -129,10 +124,6 @@ words-none (some x) e = absurd (omega arith)
 words-some : (d : Option ℕ) → (length (dynIds d) ≡ 0 → ⊥) → dynWords d ≡ 1 ∷ getD (dynIds d) 0 0 ∷ []
 words-some none e = absurd (e refl)
 words-some (some x) e = refl
-
-dyns-few : (d : Option ℕ) → length (dynIds d) ≤ 1
-dyns-few none = omega arith
-dyns-few (some x) = omega arith
 
 front-length : (fs : List Field) (d : Option ℕ) → length (frontWords fs d) ≡ 3 + 2 * length fs + length (dynIds d)
 front-length fs d = omega (arith, length-append (fieldWords fs) (dynWords d), field-words-length fs, dyn-words-length d)
@@ -178,7 +169,7 @@ module _ {w w1 w2 w3 held : List ℕ} {t p1 f n : ℕ} {g : Merging} (two : Sum 
           is = λ {fs} {d = dyn} got le.
               let x = before-dyn got two more in
               let few = got-few got in
-              let one : g .dyns ≡ 1 = omega (arith, got .dyns, dyns-few dyn, e) in
+              let one : g .dyns ≡ 1 = omega (arith, got .dyns, few-dyns dyn, e) in
               let y = got .dyn (omega (arith, got .dyns)) in
               let size = length-append (fieldWords fs) (g .dyns ∷ []) in
               let z = next .is (omega arith) in
@@ -192,7 +183,7 @@ module _ {w w1 w2 w3 held : List ℕ} {t p1 f n : ℕ} {g : Merging} (two : Sum 
           size = λ {fs} {d = dyn} got.
               let x = before-dyn got two more in
               let few = got-few got in
-              last .is (omega arith) ∙ omega (arith, front-length fs dyn, got .dyns, dyns-few dyn, e);
+              last .is (omega arith) ∙ omega (arith, front-length fs dyn, got .dyns, few-dyns dyn, e);
         }
 
 -- `put_if`
@@ -236,7 +227,7 @@ module _ {w₀ : List ℕ} {o : ℕ} {held ms : List ℕ} {c : ℕ} where
   choosing-start = record { few = omega arith; is = λ fs h m sets e l f le. record { written = written-none o w₀; count = refl } }
 
   pub choosing-more : {w w′ : List ℕ} {a n k k′ i key : ℕ} {b : Bool} → Choosing w₀ o held ms c a n w k i → i < n → HeldKey held a i key
-      → OptionalInAll w ms c key b → PutsIf w o k key b w′ k′ → Choosing w₀ o held ms c a n w′ k′ (i + 1)
+      → AllPass (allowed key) w ms c b → PutsIf w o k key b w′ k′ → Choosing w₀ o held ms c a n w′ k′ (i + 1)
   choosing-more {w} {w′} {a} {n} {k} {k′} {i} {key} {b} inv lt hk opt put =
       record {
         few = omega arith;
@@ -249,9 +240,9 @@ module _ {w₀ : List ℕ} {o : ℕ} {held ms : List ℕ} {c : ℕ} where
             let now : Arena w q ns = arena-alike h (mid .written .same-length) (λ j z. mid .written .below j (omega arith)) in
             let key-is : key ≡ getD keys i 0 = hk .is fs held-at few l ∙ sym (List·getD-map (λ (f : Field). f .key) fs i (record { key = 0; type = 0 })) in
             let e : filter (optionalInAll ts) (take i keys) ++ if b (λ _. key ∷ []) (λ _. []) ≡ filter (optionalInAll ts) (take (i + 1) keys) =
-                  ap₂ (λ (v : Bool) (y : ℕ). filter (optionalInAll ts) (take i keys) ++ if v (λ _. y ∷ []) (λ _. []))
-                  (opt .is now m sets ∙ ap (optionalInAll ts) key-is) key-is
-                  ∙ sym (ap (λ (j : ℕ). filter (optionalInAll ts) (take j keys)) (add-one i) ∙ filter-take (optionalInAll ts) keys i (omega arith)) in
+            ap₂ (λ (v : Bool) (y : ℕ). filter (optionalInAll ts) (take i keys) ++ if v (λ _. y ∷ []) (λ _. []))
+            (opt .is now m sets ∙ ap (optionalInAll ts) key-is) key-is
+            ∙ sym (ap (λ (j : ℕ). filter (optionalInAll ts) (take j keys)) (add-one i) ∙ filter-take (optionalInAll ts) keys i (omega arith)) in
             record {
               written = written-list e (put .is (mid .written) (mid .count));
               count =
@@ -264,7 +255,7 @@ module _ {w₀ : List ℕ} {o : ℕ} {held ms : List ℕ} {c : ℕ} where
   pub choosing-done : {g : Merging} {w : List ℕ} {k i : ℕ} → Choosing w₀ o held ms c (g .area) (g .fields) w k i → g .fields ≤ i → WritesOptional w₀ o held g (firstOf c ms) w k
   choosing-done {g} {i = i} inv le =
       let whole : (fs : List Field) → g .fields ≡ length fs → take i (fieldKeys fs) ≡ fieldKeys fs =
-            λ fs e. take-all i (fieldKeys fs) (omega (arith, length-map fs (λ (f : Field). f .key))) in
+      λ fs e. take-all i (fieldKeys fs) (omega (arith, length-map fs (λ (f : Field). f .key))) in
       record {
         is = λ {q} {ns} {xs} {fs} h m sets got low.
             written-list (ap (filter (optionalInAll (attrsOf ns xs))) (whole fs (got .count)))
@@ -294,7 +285,7 @@ module _ {w w1 w2 w3 w4 held w′ : List ℕ} {q : Pass} {g : Merging} {m : Memb
     wrote = front .is got low
 
     len-few : length (frontWords fs d) ≤ 2052
-    len-few = omega (arith, front-length fs d, dyns-few d, got-few got)
+    len-few = omega (arith, front-length fs d, few-dyns d, got-few got)
 
     o-is : o ≡ t + length (frontWords fs d)
     o-is =
@@ -375,7 +366,7 @@ module _ {w w1 w2 w3 w4 held w′ : List ℕ} {q : Pass} {g : Merging} {m : Memb
         let x = sl2 .is (omega arith) in
         let y = sl3 .is (omega arith) in
         let size : l3 ≡ length (frontWords fs d ++ (openIfAll ts ∷ length opts ∷ opts)) =
-              omega (arith, length-append (frontWords fs d) (openIfAll ts ∷ length opts ∷ opts)) in
+        omega (arith, length-append (frontWords fs d) (openIfAll ts ∷ length opts ∷ opts)) in
         let u = got-few got in
         let v = got .count in
         let f = sf2 .is (omega arith) in
@@ -398,7 +389,6 @@ attrs-stay ns more [] u = refl
 attrs-stay ns more (x ∷ xs) u =
     ap₂ (λ (n : rules.Node) (l : List Attr). attrOf (asAttr n) ++ l) (List·getD-append ns more Bottom x (u .0)) (attrs-stay ns more xs (u .1))
 
-
 -- `merged_last`
 module _ {w held : List ℕ} {d : Merged} {m n : Members} where
   pub last-refused : {k : ℕ} {r : Listed} → d ≡ Refused k → Refuses k r → MergedLast w held d m n w r
@@ -408,7 +398,7 @@ module _ {w held : List ℕ} {d : Merged} {m n : Members} where
             let o = bind (before (λ fs d. store (mergedNode (attrsOf (st .nodes) xs) fs d))) (λ x. give (ys ++ (x ∷ []))) in
             subst (λ (x : Flow). AnswersFlow o w (r .members) x) (sym (f .is))
             (ap (λ (v : Out ℕ). bind v (λ x. give (ys ++ (x ∷ []))))
-            (subst (λ (v : Merged). AnswersMerged before [] st w held h v) e a (λ fs d. store (mergedNode (attrsOf (st .nodes) xs) fs d))))
+            (subst (λ (v : Merged). AnswersMerged before [] st w held h v) e a (λ fs d. store (mergedNode (attrsOf (st .nodes) xs) fs d))));
       }
 
   module _ {w′ : List ℕ} {g : Merging} {q : Pass} {v : Given} {r : Listed} (e : d ≡ On g q) (call : StoresMerged w held q g m w′ v) (last : WithLast n v r) where
@@ -430,7 +420,7 @@ module _ {w held : List ℕ} {d : Merged} {m n : Members} where
                 ap kindOf
                 (ap (λ (v : List rules.Node). nodeAt v (getD xs i 0)) (here .nodes)
                 ∙ List·getD-append (st .nodes) (here .more) Bottom (getD xs i 0) (under-at (length (st .nodes)) xs i (taken .below) l))
-                ∙ sets .is i l
+                ∙ sets .is i l;
           }
 
       abbrev o : Out ℕ
@@ -448,9 +438,9 @@ module _ {w held : List ℕ} {d : Merged} {m n : Members} where
           subst (λ (v : Out ℕ). Answers (bind v (λ x. give (ys ++ (x ∷ [])))) w′ r) (sym (here .is (λ fs d. store (mergedNode (attrsOf (st .nodes) xs) fs d))))
           (last .is o w′ stored few lt
           (λ x st′ z.
-            let kept = store-keeps (mergedNode (attrsOf (st .nodes) xs) (here .fields) (here .dyn)) (here .after) x st′ z in
-            under-most (length (st .nodes)) (length (st′ .nodes)) ys
-            (omega (arith, longer, ap length (kept .grows .nodes), length-append (here .after .nodes) (kept .grows .more))) u))
+          let kept = store-keeps (mergedNode (attrsOf (st .nodes) xs) (here .fields) (here .dyn)) (here .after) x st′ z in
+          under-most (length (st .nodes)) (length (st′ .nodes)) ys
+          (omega (arith, longer, ap length (kept .grows .nodes), length-append (here .after .nodes) (kept .grows .more))) u))
 
     pub last-merged : MergedLast w held d m n w′ r
     last-merged = record { is = λ before st h a taken sets few lt u. last-answers before st h a taken sets few lt u }

@@ -5,10 +5,11 @@ use mathlib.Core.Logic.{_⊎_}
 use Prim.Native.Nat.{ℕ, suc, _+_, _*_, _≤_, _<_}
 use mathlib.Core.List.{List, [], _∷_, _++_}
 use lib.ListN.{length, getD, set}
+use lib.Dec.{eqb}
 use Rattle.cells.specs.Part.{cell, if}
 use Rattle.layout.specs.Layout.{areaLength}
 use Rattle.rules.specs.Ceilings.{mostMembers, mostNames}
-use Rattle.rules.specs.Plain.{filter, contains}
+use Rattle.rules.specs.Plain.{all, filter, contains}
 use Rattle.rules.specs.Table.{Field, Attr, fieldKeys, fieldTypes, dynIds}
 use Rattle.rules.specs.Types.{State, Out, ok, no, Run, bind, give, AttrSet, fieldWords, dynWords, kindOf, nodeAt, store}
 use Rattle.rules.specs.Types as rules
@@ -25,6 +26,8 @@ use Rattle.members.specs.declared.lists.Listed.{Listed}
 use Rattle.merge.specs.declared.Merging.{Merging}
 use Rattle.merge.specs.declared.Merged.{Merged}
 use Rattle.merge.specs.declared.Merged.the-variants.{On, Refused}
+use Rattle.merge.specs.declared.SetTest.{SetTest}
+use Rattle.merge.specs.declared.SetTest.the-variants.{Allows, Open}
 use Rattle.merge.specs.declared.Next.{Next}
 use Rattle.merge.specs.declared.Next.the-variants.{Old, New, Both}
 use Rattle.members.specs.Lists.{Few, Taken, Answers, firstOf}
@@ -235,12 +238,19 @@ pub record MergesAll (w held : List ℕ) (h : ℕ) (q : Pass) (m : Members) (w�
 abbrev pub allowed : ℕ → Attr → Bool
 allowed key t = not (contains (fieldKeys (t .fields)) key) || contains (t .optional) key
 
-pub record Allows (w : List ℕ) (a key : ℕ) (r : Bool) : Type 0 where
-  pub is : {t : Attr} → SetAt w a t → r ≡ allowed key t
+abbrev pub opened : Attr → Bool
+opened t = eqb (t .isOpen) 1
 
-pub record OptionalInAll (w ms : List ℕ) (n key : ℕ) (r : Bool) : Type 0 where
-  pub is : {q : Pass} {ns : List rules.Node} {xs : List ℕ} → Arena w q ns → Taken (firstOf n ms) xs (length ns) → AllSets ns xs
-      → r ≡ optionalInAll (attrsOf ns xs) key
+abbrev pub setTest : SetTest → Attr → Bool
+setTest (Allows key) = allowed key
+setTest Open = opened
+
+-- r is the answer of the test f on the set at a, and on all sets among the members
+pub record Passes (f : Attr → Bool) (w : List ℕ) (a : ℕ) (r : Bool) : Type 0 where
+  pub is : {t : Attr} → SetAt w a t → r ≡ f t
+
+pub record AllPass (f : Attr → Bool) (w ms : List ℕ) (n : ℕ) (r : Bool) : Type 0 where
+  pub is : {q : Pass} {ns : List rules.Node} {xs : List ℕ} → Arena w q ns → Taken (firstOf n ms) xs (length ns) → AllSets ns xs → r ≡ all f (attrsOf ns xs)
 
 pub record OpenIfAll (w ms : List ℕ) (n r : ℕ) : Type 0 where
   pub is : {q : Pass} {ns : List rules.Node} {xs : List ℕ} → Arena w q ns → Taken (firstOf n ms) xs (length ns) → AllSets ns xs → r ≡ openIfAll (attrsOf ns xs)

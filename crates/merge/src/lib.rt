@@ -5,10 +5,10 @@ use cells::get;
 use cells::place;
 use cells::put;
 use cells::set;
+use lang_ty::arena;
 use lang_ty::arena::Given;
 use lang_ty::arena::OutputTy;
 use lang_ty::arena::Pass;
-use lang_ty::arena;
 use lang_ty::attrset;
 use lang_ty::disjoint;
 use layout::WorkSlice;
@@ -21,7 +21,7 @@ use members::lists::with_last;
 ghost use mathlib.Core.Path.{_≡_};
 ghost use Rattle.cells.specs.Part.{part};
 ghost use Rattle.lang_ty.specs.Nodes.{Written};
-ghost use Rattle.merge.specs.Merges.{MergesSets, Meets, PutsField, HeldKey, HeldType, ComesNext, MergesField, oldTaken, newTaken, GoesOn, fieldsAt, MergesFields, dynAt, MergesDyn, OtherArea, MergesOne, MergesAll, Allows, OptionalInAll, OpenIfAll, WritesFields, PutsIf, WritesOptional, StoresMerged, MergedLast};
+ghost use Rattle.merge.specs.Merges.{MergesSets, Meets, PutsField, HeldKey, HeldType, ComesNext, MergesField, oldTaken, newTaken, GoesOn, fieldsAt, MergesFields, dynAt, MergesDyn, OtherArea, MergesOne, MergesAll, allowed, setTest, Passes, AllPass, OpenIfAll, WritesFields, PutsIf, WritesOptional, StoresMerged, MergedLast};
 
 // What sets come to so far: fields held at a place, and a dyn or none.
 struct Merging {
@@ -98,7 +98,18 @@ fn next_field(words: &[u32], held: &[u32], a: u32, i: u32, n: u32, s: u32, j: u3
 }
 
 // Field i of those held at a, field j of the set at s, or both met, put as field k of the area at b.
-fn merge_field(arena: &mut [u32], held: &mut [u32], q: Pass, next: Next, a: u32, i: u32, s: u32, j: u32, b: u32, k: u32) -> Flow
+fn merge_field(
+    arena: &mut [u32],
+    held: &mut [u32],
+    q: Pass,
+    next: Next,
+    a: u32,
+    i: u32,
+    s: u32,
+    j: u32,
+    b: u32,
+    k: u32,
+) -> Flow
     ensures { λ r. ⌜ MergesField (now (arena .entry)) (now (held .entry)) q next a i s j b k (now (arena .exit)) (now (held .exit)) r ⌝ }
 {
     let old = held_type(held, a, i);
@@ -286,7 +297,7 @@ fn merge_sets(arena: &mut [u32], held: &mut [u32], h: u32, p: Pass, sets: Member
 
 // Whether the set at a does not require the key.
 fn allows(words: &[u32], a: u32, key: u32) -> bool
-    ensures { λ r. ⌜ Allows (now (words .entry)) a key r ⌝ }
+    ensures { λ r. ⌜ Passes (allowed key) (now (words .entry)) a r ⌝ }
 {
     if !attrset::has_field(words, a, key) {
         return true;
@@ -294,14 +305,29 @@ fn allows(words: &[u32], a: u32, key: u32) -> bool
     attrset::has_optional(words, a, key)
 }
 
-// A key is optional only if optional in every set that has it.
-fn optional_in_all(arena: &[u32], s: &[u32], n: u32, key: u32) -> bool
-    ensures { λ r. ⌜ OptionalInAll (now (arena .entry)) (now (s .entry)) n key r ⌝ }
+// What is asked of a set: that it does not require a key, or that it is open.
+enum SetTest {
+    Allows(u32),
+    Open,
+}
+
+fn passes(words: &[u32], t: SetTest, a: u32) -> bool
+    ensures { λ r. ⌜ Passes (setTest t) (now (words .entry)) a r ⌝ }
+{
+    match t {
+        SetTest::Allows(key) => allows(words, a, key),
+        SetTest::Open => attrset::open(words, a) == 1,
+    }
+}
+
+// Whether each of the sets passes. A key is optional only if every set allows that.
+fn all_pass(arena: &[u32], t: SetTest, s: &[u32], n: u32) -> bool
+    ensures { λ r. ⌜ AllPass (setTest t) (now (arena .entry)) (now (s .entry)) n r ⌝ }
 {
     let mut i = 0;
     while i < n {
         let a = disjoint::set_place(arena, at(s, i));
-        if !allows(arena, a, key) {
+        if !passes(arena, t, a) {
             return false;
         }
         i += 1;
@@ -313,14 +339,11 @@ fn optional_in_all(arena: &[u32], s: &[u32], n: u32, key: u32) -> bool
 fn open_if_all(arena: &[u32], s: &[u32], n: u32) -> u32
     ensures { λ r. ⌜ OpenIfAll (now (arena .entry)) (now (s .entry)) n r ⌝ }
 {
-    let mut i = 0;
-    while i < n {
-        if attrset::open(arena, disjoint::set_place(arena, at(s, i))) != 1 {
-            return 0;
-        }
-        i += 1;
+    if all_pass(arena, SetTest::Open, s, n) {
+        1
+    } else {
+        0
     }
-    1
 }
 
 // The n numbers held from a on, written from t on.
@@ -374,7 +397,7 @@ fn write_optional(arena: &mut [u32], o: u32, held: &[u32], g: Merging, sets: Mem
     let mut i = 0;
     while i < n {
         let key = held_key(held, a, i);
-        let optional = optional_in_all(arena, &s, c, key);
+        let optional = all_pass(arena, SetTest::Allows(key), &s, c);
         k = put_if(arena, o, k, key, optional);
         i += 1;
     }
@@ -393,7 +416,12 @@ fn store_merged(arena: &mut [u32], held: &[u32], q: Pass, g: Merging, sets: Memb
     set(arena, o, open);
     let k = write_optional(arena, add(o, 2), held, g, sets);
     put(arena, place(o, 1), k);
-    arena::intern(arena, q, add(add(len, 2), k), add(add(g.fields, g.fields), k))
+    arena::intern(
+        arena,
+        q,
+        add(add(len, 2), k),
+        add(add(g.fields, g.fields), k),
+    )
 }
 
 // The merged set stored, behind the other members.
@@ -410,7 +438,13 @@ fn merged_last(arena: &mut [u32], held: &[u32], d: Merged, sets: Members, others
 }
 
 // merge_attrset_intersection: the sets become one, last; held from h on is free for their fields.
-pub fn merge_attrset_intersection(arena: &mut [u32], held: &mut [u32], h: u32, q: Pass, m: Members) -> Listed
+pub fn merge_attrset_intersection(
+    arena: &mut [u32],
+    held: &mut [u32],
+    h: u32,
+    q: Pass,
+    m: Members,
+) -> Listed
     ensures { λ r. ⌜ MergesSets (now (arena .entry)) (now (held .entry)) h q m (now (arena .exit)) (now (held .exit)) r ⌝ }
 {
     let sets = of_kind(arena, m, OutputTy::ATTR_SET, true);

@@ -16,16 +16,17 @@ use borrow.Author.Tests.{ltb-true, ltb-false, lt-ltb, le-ltb, eqb-true, eqb-fals
 use Rattle.cells.specs.Part.{run, cell, part, if, eqList}
 use Rattle.cells.specs.Sum.{Sum}
 use Rattle.cells.proofs.Parts.{run-at, run-length, run-next, run-none, run-whole, run-getD, run-ext, eqList-same, eqList-other, eqList-longer}
+use Rattle.cells.proofs.Choices.{by-branch, by-test, if-self, if-same}
 use Rattle.layout.specs.Layout.{marksAt, preservedAt, rowsAt, tableWords, tableLength}
 use Rattle.rules.specs.Plain.{find, any}
 use Rattle.rules.specs.Ceilings.{mostNames, mostEntries, mostPairs, mostMarks, mostRoots}
 use Rattle.rules.specs.Table.{Pair, Root, pairOf, rootOf, fromSections, repIn, joinPairs, upward, representatives, accepted, tableOf}
 use Rattle.rules.specs.Table as rules
 use Rattle.rules.specs.Canonicalizer.{readerOf, functorNumber, firstPass}
-use Rattle.laws.proofs.Told.{by-branch}
-use Rattle.laws.proofs.Admitting.{by-test}
 use Rattle.laws.proofs.Joining.{representative-below}
 use Rattle.laws.proofs.Accepting.{accepted-tabled, accepted-root}
+use Rattle.laws.proofs.ReadLines.{Long}
+use Rattle.laws.proofs.Admitting.{Every}
 use Rattle.text.specs.Reads.{span}
 use Rattle.text.proofs.Spans.{span-length}
 use Rattle.table.specs.declared.Table.{Table}
@@ -37,7 +38,7 @@ use Rattle.storage.specs.Equivs.{pairAt, pairsIn, Behind, Represents}
 use Rattle.storage.proofs.Alike.{Alike}
 use Rattle.prepare.specs.declared.Prepared.{Prepared}
 use Rattle.prepare.specs.Prepares.{Number, FirstEntry, FirstPair, FirstMark, FirstRoot, mark, markAll, marksIn, rootAt, rootsIn, SetsMark, SetsMarks, functorName, IsFunctor, Functor, Budget, Prepares}
-use Rattle.prepare.proofs.Prepares.{AllOf, Long, read-kept, same-table, rows-formed, many, reads-table}
+use Rattle.prepare.proofs.Prepares.{read-kept, same-table, rows-formed, many, reads-table}
 
 -- the first rows
 module _ {t : Table} where
@@ -182,12 +183,12 @@ module _ {table : List ℕ} {a : ℕ} where
       (byte : y ≡ cell functorName i) where
     spell-next : a ≤ tableLength
         → eqList (x ∷ part table (a + 1 + (i + 1)) (9 - (i + 1))) (y ∷ part functorName (0 + (i + 1)) (9 - (i + 1)))
-          ≡ eqList (part table (a + 1) 9) functorName
+        ≡ eqList (part table (a + 1) 9) functorName
     spell-next low =
         let z = s .is (omega arith) in
         let at : p ≡ a + 1 + i = omega arith in let byte-at : i ≡ 0 + i = omega arith in
         ap₂ {C = Bool} (λ (u v : ℕ). eqList (u ∷ part table (a + 1 + (i + 1)) (9 - (i + 1)))
-            (v ∷ part functorName (0 + (i + 1)) (9 - (i + 1))))
+        (v ∷ part functorName (0 + (i + 1)) (9 - (i + 1))))
         (word ∙ ap (cell table) at) (byte ∙ ap (cell functorName) byte-at)
         ∙ ap₂ {C = Bool} eqList (sym (run-next (cell table) (a + 1) 9 i lt)) (sym (run-next (cell functorName) 0 9 i lt))
         ∙ inv .is low
@@ -242,7 +243,7 @@ module _ {table : List ℕ} {names : ℕ} where
       (to : q ≡ rowsAt + 2 + i) (end : e ≡ cell table q) (said : IsFunctor table a e r) where
     seek-next : ((k : ℕ) → k ≤ names → beginAt table k ≤ tableLength)
         → Option·getD (if r (λ _. some i) (λ _. find isFunctorName (suc i) (run (bareAt table) (1 + (i + 1)) (names - (i + 1))))) names
-          ≡ functorNumber (run (bareAt table) 1 names)
+        ≡ functorNumber (run (bareAt table) 1 names)
     seek-next within =
         let rest = run (bareAt table) (1 + (i + 1)) (names - (i + 1)) in
         let first : a ≡ beginAt table (1 + i) = at ∙ ap (cell table) (omega arith) in
@@ -290,14 +291,6 @@ module _ {table : List ℕ} {a e d : ℕ} (at : a ≡ cell table rowsAt) (end : 
         ∙ sym (run-getD (cell table) (beginAt table 0) (beginAt table 1 - beginAt table 0) 1 0 (omega arith));
   }
 
-if-same : (b : Bool) → if b (λ _. true) (λ _. true) ≡ true
-if-same true = refl
-if-same false = refl
-
-if-self : (b : Bool) → if b (λ _. true) (λ _. false) ≡ b
-if-self true = refl
-if-self false = refl
-
 -- whether the slice says that id is marked
 abbrev says : List ℕ → ℕ → Bool
 says table id = not (eqb (cell table (marksAt + id)) 0)
@@ -311,7 +304,7 @@ module _ (entries id : ℕ) (lt : id < entries) where
       ∙ getD-set-same table (marksAt + id) 1 0 (omega arith) in
       let here : cell (mark entries table m) (marksAt + id) ≡ 1 =
       ap (λ (k : ℕ). cell (mark entries table k) (marksAt + id)) (eqb-true m id e) ∙ one in
-      ap (λ (k : ℕ). if a (λ _. true) (λ _. not (eqb k 0))) here ∙ if-same a
+      ap (λ (k : ℕ). if a (λ _. true) (λ _. not (eqb k 0))) here ∙ if-same a true
   said-turn false a table m e le =
       let n = eqb-false m id e in
       ap (λ (k : ℕ). if a (λ _. true) (λ _. not (eqb k 0))) (mark-other entries table m (marksAt + id) (λ _ z. n (omega arith)))
@@ -345,7 +338,7 @@ pub run-places : {A : Type 0} (f : ℕ → A) (c a b n : ℕ) → c + a ≡ b �
 run-places f c a b zero e = refl
 run-places {A} f c a b (suc n) e = ap₂ {C = List A} _∷_ (ap f e) (run-places f c (suc a) (suc b) n (omega arith))
 
-all-run : (P : List ℕ → Type 0) (f : ℕ → List ℕ) (a n : ℕ) → AllOf P (run f a n) → (k : ℕ) → a ≤ k → k < a + n → P (f k)
+all-run : (P : List ℕ → Type 0) (f : ℕ → List ℕ) (a n : ℕ) → Every P (run f a n) → (k : ℕ) → a ≤ k → k < a + n → P (f k)
 all-run P f a zero h k p q = absurd (omega arith)
 all-run P f a (suc n) h k p q =
     ⊎-elim (λ (z : a ≡ k). subst (λ (j : ℕ). P (f j)) z (h .0))
@@ -377,7 +370,7 @@ module _ (text table : List ℕ) (t : Table) (T : rules.Table) (rd : Read text t
       ∙ ap (map pairOf) bare-rows
       ∙ map-run pairOf (bareAt table) first n
       ∙ run-ext (λ (i : ℕ). pairOf (bareAt table i)) _ first n
-      (λ k p q. ap pairOf (bare-two table k (all-run (Long 2) (bareAt table) first n (subst (AllOf (Long 2)) bare-rows (rows-formed text table t T rd e .pairs)) k p q)))
+      (λ k p q. ap pairOf (bare-two table k (all-run (Long 2) (bareAt table) first n (subst (Every (Long 2)) bare-rows (rows-formed text table t T rd e .pairs)) k p q)))
       ∙ run-places (pairAt table) rowsAt first firstPair n (omega arith)
 
   marks-are : T .marks ≡ marksIn table firstMark (t .marks)
@@ -390,7 +383,7 @@ module _ (text table : List ℕ) (t : Table) (T : rules.Table) (rd : Read text t
       ∙ map-run (λ (row : List ℕ). cell row 0) (bareAt table) first n
       ∙ run-ext (λ (i : ℕ). cell (bareAt table i) 0) _ first n
       (λ k p q. ap (λ (row : List ℕ). cell row 0)
-      (bare-words table k 1 (all-run (Long 1) (bareAt table) first n (subst (AllOf (Long 1)) bare-rows (rows-formed text table t T rd e .marks)) k p q)))
+      (bare-words table k 1 (all-run (Long 1) (bareAt table) first n (subst (Every (Long 1)) bare-rows (rows-formed text table t T rd e .marks)) k p q)))
       ∙ run-places (idAt table) rowsAt first firstMark n (omega arith)
 
   abbrev firstRoot : ℕ
@@ -405,7 +398,7 @@ module _ (text table : List ℕ) (t : Table) (T : rules.Table) (rd : Read text t
       ∙ ap (map rootOf) bare-rows
       ∙ map-run rootOf (bareAt table) first n
       ∙ run-ext (λ (i : ℕ). rootOf (bareAt table i)) _ first n
-      (λ k p q. ap rootOf (bare-two table k (all-run (Long 2) (bareAt table) first n (subst (AllOf (Long 2)) bare-rows (rows-formed text table t T rd e .roots)) k p q)))
+      (λ k p q. ap rootOf (bare-two table k (all-run (Long 2) (bareAt table) first n (subst (Every (Long 2)) bare-rows (rows-formed text table t T rd e .roots)) k p q)))
       ∙ run-places (rootAt table) rowsAt first firstRoot n (omega arith)
 
   row-behind : (k i : ℕ) → k ≡ rowsAt + i → i ≤ rows t → tableWords ≤ cell table k
@@ -445,7 +438,7 @@ module _ (text table₀ table₁ table₂ : List ℕ) (t : Table) (T : rules.Tab
   beside : (k : ℕ) → ((m : ℕ) → m < t .entries → k ≡ marksAt + m → ⊥) → cell table₂ k ≡ cell table₁ k
   beside k h = ap (λ (l : List ℕ). cell l k) set-all ∙ marks-other (t .entries) ids table₁ k h
 
-  pub prepared-read : Read text table₂ (Accepted t)
+  prepared-read : Read text table₂ (Accepted t)
   prepared-read = let f = few-entries in read-kept rd₁ (record { is = λ k le. beside k (λ m lt z. omega arith) })
 
   entries-many : length (T .entries) ≡ c .count
@@ -480,7 +473,7 @@ module _ (text table₀ table₁ table₂ : List ℕ) (t : Table) (T : rules.Tab
       ∙ sym (marks-said (t .entries) id (omega arith) ids table₁ (omega arith))
       ∙ ap (λ (l : List ℕ). says l id) (sym set-all)
 
-  pub none-preserved : (v : ℕ) → v < c .count → cell table₂ (preservedAt + v) ≡ 0
+  none-preserved : (v : ℕ) → v < c .count → cell table₂ (preservedAt + v) ≡ 0
   none-preserved v lt =
       let f = few-entries in
       beside (preservedAt + v) (λ m h z. omega arith) ∙ rep .kept (preservedAt + v) (omega arith) ∙ zeros (preservedAt + v) (omega arith)
@@ -499,7 +492,7 @@ module _ (text table₀ table₁ table₂ : List ℕ) (t : Table) (T : rules.Tab
     functor-known =
         ap functorNumber (ap (λ (u : rules.Table). u .names) here ∙ map-run (drop 1) (rowAt table₂) 1 (t .names)) ∙ sym functor
 
-    pub pass-known : Knows table₂ c (firstPass T) (readerOf T)
+    pass-known : Knows table₂ c (firstPass T) (readerOf T)
     unfolding firstPass
     pass-known = record {
       count = entries-many;

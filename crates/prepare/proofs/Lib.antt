@@ -1,4 +1,3 @@
 -- The rows of a table that was read, and what its runs are given.
-pub mod Shapes
 pub mod Prepares
 pub mod Facts

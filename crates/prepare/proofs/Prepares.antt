@@ -1,24 +1,19 @@
 -- What the table's reader leaves is what a run reads: each entry's row stands in the words, its ids are entries. Assumes nothing.
 use mathlib.Core.Path.{_≡_, sym, ap, ap₂, _∙_, subst}
-use Prim.Native.Nat.{ℕ, zero, suc, _+_, _-_, _≤_, _<_}
+use Prim.Native.Nat.{ℕ, suc, _+_, _-_, _≤_, _<_}
 use native.Mathlib.Omega.{arith}
-use native.Mathlib.Nat.{not-suc-le-zero}
-use mathlib.Core.List.{List, [], _∷_, _++_}
-use lib.ListN.{length, drop, getD, length-append, length-drop}
-use lib.Dec.{eqb, ltb}
-use borrow.Author.Tests.{eqb-true, eqb-false}
+use mathlib.Core.List.{List, [], _∷_}
+use lib.ListN.{length, getD, length-append}
 use Rattle.cells.specs.Part.{cell, part, run}
 use Rattle.cells.proofs.Parts.{run-length, run-getD, run-ext}
 use Rattle.cells.proofs.Holding.{holds-head, holds-tail, holds-left, holds-right}
 use Rattle.layout.specs.Layout.{rowsAt, tableLength}
-use Rattle.rules.specs.Ceilings.{mostText}
-use Rattle.rules.specs.Text.{lineFeed, pieces, rowOf}
-use Rattle.rules.specs.Table.{Entry, var, prim, tyvar, list, fn, set, neg, named, inter, union, frozen, kids, entryOf, kinds, sectionOf, frozenEntry, Reading, nothing, inOrder, addRow, add, over, ascends, Admission, admitted, fault, admit, inForm, step, Result, accepted, refused, then, atLine, begun, lines, known, entryLine, rootLine, inTable, sectionsOf, fromSections, tableOf}
+use Rattle.rules.specs.Table.{Entry, var, prim, tyvar, list, fn, set, neg, named, inter, union, frozen, kids, entryOf, Result, accepted, then, known, fromSections, tableOf}
 use Rattle.rules.specs.Table as rules
 use Rattle.rules.specs.Canonicalizer.{readerOf, firstPass}
-use Rattle.laws.proofs.Told.{by-branch}
-use Rattle.laws.proofs.Admitting.{by-test, Accepts}
+use Rattle.laws.proofs.Admitting.{Accepts, Every, every-at, EntryRow, Formed, WholeS, sections-whole}
 use Rattle.laws.proofs.Accepting.{accepted-tabled}
+use Rattle.laws.proofs.ReadLines.{restWords, rowWords}
 use Rattle.text.specs.Reads.{span}
 use Rattle.text.proofs.Spans.{span-length}
 use Rattle.table.specs.declared.Table.{Table}
@@ -28,111 +23,7 @@ use Rattle.table.proofs.Growing.{built}
 use Rattle.storage.specs.declared.given.Canon.{Canon}
 use Rattle.storage.specs.Passes.{RestAt, EntryAt, Reads}
 use Rattle.storage.proofs.Alike.{Alike}
-use Rattle.prepare.proofs.Shapes.{restWords, rowWords, Shaped, Gives, Formal, Entered, line-entered}
 use Rattle.cells.specs.Placed.{Holds, Under}
-use mathlib.Core.Option.{Option, none, some}
-
--- each row is so
-abbrev pub AllOf : (List ℕ → Type 0) → List (List ℕ) → Type 0
-AllOf P [] = Unit {0}
-AllOf P (row ∷ rows) = P row × AllOf P rows
-
-module _ (P : List ℕ → Type 0) where
-  all-more : (rows : List (List ℕ)) (new : List ℕ) → AllOf P rows → P new → AllOf P (rows ++ (new ∷ []))
-  all-more [] new h s = (s, tt)
-  all-more (row ∷ rows) new h s = (h .0, all-more rows new (h .1) s)
-
-  pub all-at : (rows : List (List ℕ)) (i : ℕ) → AllOf P rows → i < length rows → P (getD rows i [])
-  all-at [] i h lt = absurd (not-suc-le-zero lt)
-  all-at (row ∷ rows) zero h lt = h .0
-  all-at (row ∷ rows) (suc i) h lt = all-at rows i (h .1) (omega arith)
-
--- of n words
-abbrev pub Long : ℕ → List ℕ → Type 0
-Long n row = length row ≡ n
-
--- the entries of a table are shaped, its pairs have two ids, its marks one, and its roots an id and a sign
-pub record Formed (t : rules.Sections) : Type 0 where
-  pub entries : AllOf Shaped (t .entries)
-  pub pairs : AllOf (Long 2) (t .pairs)
-  pub marks : AllOf (Long 1) (t .marks)
-  pub roots : AllOf (Long 2) (t .roots)
-
-bare-long : (n : ℕ) (row : List ℕ) → length row ≡ suc n → length (drop 1 row) ≡ n
-bare-long n row e = let d = length-drop 1 row in omega arith
-
-formed-added : (t : rules.Sections) (s : ℕ) (row : List ℕ) → Formed t → Formal s row → Formed (addRow t s row)
-formed-added t s row h f =
-    by-test Formed (eqb s 0) _ _ (λ _. record { entries = h .entries; pairs = h .pairs; marks = h .marks; roots = h .roots })
-    (λ n₀. by-test Formed (eqb s 1) _ _ (λ _. record { entries = h .entries; pairs = h .pairs; marks = h .marks; roots = h .roots })
-    (λ n₁. by-test Formed (eqb s 2) _ _
-    (λ e. let l = f .entry (eqb-true s 2 e) in
-    record { entries = all-more Shaped (t .entries) row (h .entries) l; pairs = h .pairs; marks = h .marks; roots = h .roots })
-    (λ n₂. by-test Formed (eqb s 3) _ _
-    (λ e. let l = bare-long 2 row (f .pair (eqb-true s 3 e)) in
-    record { entries = h .entries; pairs = all-more (Long 2) (t .pairs) (drop 1 row) (h .pairs) l; marks = h .marks; roots = h .roots })
-    (λ n₃. by-test Formed (eqb s 4) _ _
-    (λ e. let l = bare-long 1 row (f .mark (eqb-true s 4 e)) in
-    record { entries = h .entries; pairs = h .pairs; marks = all-more (Long 1) (t .marks) (drop 1 row) (h .marks) l; roots = h .roots })
-    (λ n₄. let last : 5 ≤ s = omega (arith, eqb-false s 0 n₀, eqb-false s 1 n₁, eqb-false s 2 n₂, eqb-false s 3 n₃, eqb-false s 4 n₄) in
-    let l = bare-long 2 row (f .root last) in
-    record { entries = h .entries; pairs = h .pairs; marks = h .marks; roots = all-more (Long 2) (t .roots) (drop 1 row) (h .roots) l })))))
-
--- what is taken has such rows
-abbrev Took : Admission → Type 0
-Took (admitted r) = Formed (r .table)
-Took (fault k) = Unit {0}
-
-admit-formed : (r : Reading) (s : ℕ) (row : List ℕ) → Formed (r .table) → Formal s row → Took (admit r s row)
-admit-formed r s row h f =
-    by-branch Took (inOrder (r .stage) s) _ _
-    (by-branch Took (over (add r s row) s row) _ _ tt
-    (by-branch Took (ascends (r .table) s row) _ _
-    (by-branch Took (eqb (cell row 0) frozenEntry) _ _ tt (formed-added (r .table) s row h f))
-    tt))
-    tt
-
-form-formed : (r : Reading) (m : Option (List ℕ)) → Formed (r .table) → Gives Entered m → Took (inForm r m)
-form-formed r none h g = tt
-form-formed r (some row) h g = admit-formed r (sectionOf (cell row 0)) row h g
-
-step-formed : (r : Reading) (l : List ℕ) → Formed (r .table) → Took (step r l)
-unfolding step
-step-formed r l h = form-formed r (rowOf kinds l) h (line-entered l)
-
--- what follows on what is taken
-at-then : (k : ℕ) (t : Admission) (f : Reading → Result rules.Sections) → Took t
-    → ((r : Reading) → Formed (r .table) → Accepts Formed (f r)) → Accepts Formed (then (atLine k t) f)
-at-then k (admitted r) f h g = g r h
-at-then k (fault n) f h g = tt
-
-begun-formed : (r : Reading) (k : ℕ) → Formed (r .table) → Accepts Formed (begun r k)
-begun-formed r k h = by-branch (Accepts Formed) (eqb (r .stage) 0) _ _ tt h
-
-lines-formed : (k : ℕ) (r : Reading) (ls : List (List ℕ)) → Formed (r .table) → Accepts Formed (lines k r ls)
-lines-formed k r [] h = begun-formed r k h
-lines-formed k r ([] ∷ []) h = begun-formed r k h
-lines-formed k r ((b ∷ l) ∷ []) h = tt
-lines-formed k r (l ∷ m ∷ ls) h = at-then k (step r l) _ (step-formed r l h) (λ q g. lines-formed (suc k) q (m ∷ ls) g)
-
-then-formed : {A : Type 0} (r : Result A) (f : A → Result rules.Sections) → ((a : A) → Accepts Formed (f a))
-    → Accepts Formed (then r f)
-then-formed (accepted a) f g = g a
-then-formed (refused k l) f g = tt
-
-table-formed : (r : Result rules.Sections) → Accepts Formed r → Accepts Formed (then r inTable)
-unfolding inTable
-table-formed (accepted t) h =
-    then-formed (known _ (entryLine t) (t .entries)) _ (λ _. then-formed (known _ (rootLine t) (t .roots)) _ (λ _. h))
-table-formed (refused k l) h = tt
-
--- the rows of a table that is accepted are such
-formed : (text : List ℕ) → Accepts Formed (sectionsOf text)
-unfolding sectionsOf
-formed text =
-    by-branch (Accepts Formed) (ltb mostText (length text)) _ _ tt
-    (table-formed (lines 1 nothing (pieces lineFeed text))
-    (lines-formed 1 nothing (pieces lineFeed text) (record { entries = tt; pairs = tt; marks = tt; roots = tt })))
 
 -- a span of words stands where it begins
 holds-span : {w xs : List ℕ} (a b : ℕ) → span w a b ≡ xs → Holds w a xs
@@ -167,7 +58,7 @@ module _ {w : List ℕ} {a : ℕ} where
   rest-at frozen h le = tt
 
 -- the entry of a shaped row that stands in the words
-entry-at : (w row : List ℕ) (a b : ℕ) → row ≡ span w a b → a ≤ tableLength → b ≤ tableLength → Shaped row → EntryAt w a (entryOf row)
+entry-at : (w row : List ℕ) (a b : ℕ) → row ≡ span w a b → a ≤ tableLength → b ≤ tableLength → EntryRow row → EntryAt w a (entryOf row)
 entry-at w row a b e low high s =
     let words : span w a b ≡ rowWords (entryOf row) = sym e ∙ s .is in
     let h : Holds w a (rowWords (entryOf row)) = holds-span a b words in
@@ -216,7 +107,7 @@ module _ (text w : List ℕ) (t : Table) (T : rules.Table) (r : Read text w (Acc
       ap (λ (s : Result rules.Sections). then s (λ (u : rules.Sections). accepted (fromSections u))) (r .is) ∙ e in cc
 
   pub rows-formed : Formed (tableFrom t w)
-  rows-formed = subst (Accepts Formed) (sym (r .is)) (formed text)
+  rows-formed = subst (Accepts WholeS) (sym (r .is)) (sections-whole text) .formed
 
   entries-run : T .entries ≡ run (rowAt w) (1 + t .names) (t .entries)
   unfolding tableFrom
@@ -235,7 +126,7 @@ module _ (text w : List ℕ) (t : Table) (T : rules.Table) (r : Read text w (Acc
       let low = r .laid .within (1 + t .names + id) (omega arith) in
       let high = r .laid .within (1 + t .names + id + 1) (omega arith) in
       entry-at w (getD (T .entries) id []) (beginAt w (1 + t .names + id)) (beginAt w (1 + t .names + id + 1)) (row-at id lt) low high
-      (all-at Shaped (T .entries) id (subst (λ (u : rules.Table). AllOf Shaped (u .entries)) (sym same-table) (rows-formed .entries)) (omega arith))
+      (every-at EntryRow (T .entries) id (subst (λ (u : rules.Table). Every EntryRow (u .entries)) (sym same-table) (rows-formed .entries)) (omega arith))
 
   ids-known : (id : ℕ) → id < length (T .entries) → Under (length (T .entries)) (kids (readerOf T id))
   unfolding firstPass

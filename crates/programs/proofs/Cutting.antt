@@ -10,11 +10,12 @@ use lib.Dec.{eqb, leb}
 use borrow.Author.Tests.{ne-eqb, eqb-true, eqb-false, le-leb, lt-leb, leb-false, lt-ltb, le-ltb}
 use Rattle.cells.specs.Part.{if, cell, eqList}
 use Rattle.cells.proofs.Parts.{eqList-same, eqList-other, eqList-longer}
+use Rattle.cells.proofs.Choices.{by-test}
 use Rattle.rules.specs.Plain.{ascii, both}
 use Rattle.rules.specs.Text.{lineFeed, cut, pieces, parted}
 use Rattle.rules.specs.Calls.{Split, cutNext, splitNext}
 use Rattle.laws.proofs.Storing.{eqList-true, eqList-refl}
-use Rattle.laws.proofs.Admitting.{by-test, both-parts}
+use Rattle.laws.proofs.Admitting.{both-parts}
 use Rattle.laws.proofs.Rooting.{all-join}
 use Rattle.laws.proofs.Printed.{Free}
 use Rattle.laws.proofs.OldListing.{parted-pieces}
@@ -74,11 +75,11 @@ next-free = ((λ e. omega arith), ((λ e. omega arith), ((λ e. omega arith), ((
 cut-more : (got l g rest : List ℕ)
     → cutNext got (l ∷ cut lineFeed g rest)
     ≡ if (eqList l (ascii "next")) (λ _. record { front = got; back = parted lineFeed (cut lineFeed g rest) })
-      (λ _. cutNext (got ++ l ++ (lineFeed ∷ [])) (cut lineFeed g rest))
+    (λ _. cutNext (got ++ l ++ (lineFeed ∷ [])) (cut lineFeed g rest))
 cut-more got l g [] = refl
 cut-more got l g (b ∷ rest) =
     by-test (λ (ps : List (List ℕ)). cutNext got (l ∷ ps)
-      ≡ if (eqList l (ascii "next")) (λ _. record { front = got; back = parted lineFeed ps }) (λ _. cutNext (got ++ l ++ (lineFeed ∷ [])) ps))
+    ≡ if (eqList l (ascii "next")) (λ _. record { front = got; back = parted lineFeed ps }) (λ _. cutNext (got ++ l ++ (lineFeed ∷ [])) ps))
     (eqb b lineFeed) _ _ (λ e. refl) (λ e. cut-more got l (g ++ (b ∷ [])) rest)
 
 -- l: the line so far
@@ -106,18 +107,18 @@ cut-scan got l [] f = rw (ap (λ (m : List ℕ). eqList (take 5 m) nextLine) (ap
 cut-scan got l (b ∷ rest) f =
     by-test (λ (ps : List (List ℕ)). cutNext got ps ≡ lineWith got l (b ∷ rest)) (eqb b lineFeed) _ _
     (λ e.
-      subst (λ (x : ℕ). cutNext got (l ∷ cut lineFeed [] rest) ≡ lineWith got l (x ∷ rest)) (sym (eqb-true b lineFeed e))
-      (cut-more got l [] rest
-      ∙ ap (λ (m : List ℕ). if (eqList l (ascii "next")) (λ _. record { front = got; back = m })
-        (λ _. cutNext (got ++ l ++ (lineFeed ∷ [])) (cut lineFeed [] rest))) (parted-pieces lineFeed rest)
-      ∙ at-feed got l rest (eqList l (ascii "next")) f refl
-        (cut-scan (got ++ l ++ (lineFeed ∷ [])) [] rest tt ∙ no-line-yet (got ++ l ++ (lineFeed ∷ [])) rest)))
+    subst (λ (x : ℕ). cutNext got (l ∷ cut lineFeed [] rest) ≡ lineWith got l (x ∷ rest)) (sym (eqb-true b lineFeed e))
+    (cut-more got l [] rest
+    ∙ ap (λ (m : List ℕ). if (eqList l (ascii "next")) (λ _. record { front = got; back = m })
+    (λ _. cutNext (got ++ l ++ (lineFeed ∷ [])) (cut lineFeed [] rest))) (parted-pieces lineFeed rest)
+    ∙ at-feed got l rest (eqList l (ascii "next")) f refl
+    (cut-scan (got ++ l ++ (lineFeed ∷ [])) [] rest tt ∙ no-line-yet (got ++ l ++ (lineFeed ∷ [])) rest)))
     (λ e.
-      cut-scan got (l ++ (b ∷ [])) rest (all-join _ l (b ∷ []) f (eqb-false b lineFeed e, tt))
-      ∙ ap₂ {C = Split} (λ (m g : List ℕ). if (eqList (take 5 m) nextLine) (λ _. record { front = got; back = drop 5 m }) (λ _. scan false g rest))
-        (append-snoc l b rest) (sym (append-assoc got l (b ∷ [])))
-      ∙ ap (λ (c : Bool). if (eqList (take 5 (l ++ (b ∷ rest))) nextLine) (λ _. record { front = got; back = drop 5 (l ++ (b ∷ rest)) })
-        (λ _. scan c (got ++ l ++ (b ∷ [])) rest)) (sym e))
+    cut-scan got (l ++ (b ∷ [])) rest (all-join _ l (b ∷ []) f (eqb-false b lineFeed e, tt))
+    ∙ ap₂ {C = Split} (λ (m g : List ℕ). if (eqList (take 5 m) nextLine) (λ _. record { front = got; back = drop 5 m }) (λ _. scan false g rest))
+    (append-snoc l b rest) (sym (append-assoc got l (b ∷ [])))
+    ∙ ap (λ (c : Bool). if (eqList (take 5 (l ++ (b ∷ rest))) nextLine) (λ _. record { front = got; back = drop 5 (l ++ (b ∷ rest)) })
+    (λ _. scan c (got ++ l ++ (b ∷ [])) rest)) (sym e))
 
 pub split-scan : (text : List ℕ) → splitNext text ≡ scan true [] text
 unfolding splitNext pieces

@@ -9,13 +9,13 @@ use lib.Seq.{take-all, take-take, take-nil, length-take-le}
 use lib.Dec.{eqb, ltb}
 use borrow.Author.Tests.{ltb-true, ltb-false, lt-ltb}
 use Rattle.cells.specs.Part.{if, eqList}
+use Rattle.cells.proofs.Choices.{by-test}
 use Rattle.rules.specs.Plain.{both, unless}
 use Rattle.rules.specs.Ceilings.{mostText}
 use Rattle.rules.specs.Text.{lineFeed}
 use Rattle.rules.specs.Table.{Root, Table, Result, accepted, refused, then, sectionsOf, tableOf}
 use Rattle.rules.specs.Listing.{listingText, oldListing}
 use Rattle.rules.specs.Calls.{fits, canon, comparable, recheckText, recheck, Split, splitNext, printed, lent, canonProgram, recheckParts, recheckProgram}
-use Rattle.laws.proofs.Admitting.{by-test}
 use Rattle.programs.specs.Parts.{nextLine}
 use Rattle.programs.proofs.Cutting.{drop-take, scan, split-scan}
 
@@ -78,8 +78,8 @@ alike start got (x ∷ xs) (suc k) most e =
         let same : take 5 (x ∷ take k xs) ≡ take 5 (x ∷ xs) = ap (λ (l : List ℕ). x ∷ l) (take-take 4 k xs le) in
         let m : 4 + (k - 4) ≡ k = omega arith in
         subst (λ (l : List ℕ). Alike most (scan start got (x ∷ xs))
-          (if (both start (λ _. eqList l nextLine)) (λ _. record { front = got; back = drop 5 (x ∷ take k xs) })
-          (λ _. scan (eqb x lineFeed) (got ++ (x ∷ [])) (take k xs))))
+        (if (both start (λ _. eqList l nextLine)) (λ _. record { front = got; back = drop 5 (x ∷ take k xs) })
+        (λ _. scan (eqb x lineFeed) (got ++ (x ∷ [])) (take k xs))))
         (sym same)
         (either most (both start (λ _. eqList (take 5 (x ∷ xs)) nextLine)) _ _ _ _
         (kept (k - 4) refl (ap (λ (n : ℕ). drop 4 (take n xs)) (sym m) ∙ drop-take 4 (k - 4) xs) (omega arith)) r)
@@ -108,7 +108,7 @@ unfolding recheck
 listing-enough old new listing room k h =
     then-same (tableOf old) _ _ (λ t. then-same (tableOf new) _ _ (λ u.
     ap (λ (r : Result (List (List ℕ))). unless (comparable t u) (λ _. refused 10 0)
-      (λ _. then r (λ (texts : List (List ℕ)). fits room (recheckText t u texts))))
+    (λ _. then r (λ (texts : List (List ℕ)). fits room (recheckText t u texts))))
     (by-length (oldListing (length (u .names)) (u .roots)) (refused 11 0) (long-listing (length (u .names)) (u .roots)) k h listing)))
 
 -- what stands behind the old table, as recheck is given it

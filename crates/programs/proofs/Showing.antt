@@ -16,11 +16,11 @@ use Rattle.rules.specs.Calls.{fits, canon, recheck, leaves, unlessShort, canonC
 use Rattle.rules.specs.Calls.{Split, splitNext, printed, lent, canonProgram, recheckParts, recheckProgram}
 use Rattle.laws.proofs.Bounding.{refusal-bounded}
 use Rattle.listing.specs.Writes.{Wrote}
-use Rattle.answers.specs.Outcomes.{isShort, Says}
-use Rattle.answers.specs.declared.outcome.Outcome.{Outcome}
-use Rattle.answers.specs.declared.outcome.Outcome.the-variants.{Written, Refused}
-use Rattle.answers.proofs.Promises.{written-anew}
-use Rattle.answers.proofs.Running.{text-written}
+use Rattle.outcomes.specs.Outcomes.{isShort, Says}
+use Rattle.outcomes.specs.declared.Outcome.{Outcome}
+use Rattle.outcomes.specs.declared.Outcome.the-variants.{Written, Refused}
+use Rattle.answers.proofs.Delivered.{written-anew}
+use Rattle.answers.proofs.Asking.{text-written}
 use Rattle.canon_call.specs.Called.{Canon}
 use Rattle.recheck_call.specs.Rechecked.{recheckShort, Rechecked}
 use Rattle.programs.specs.declared.Part.{Part}
@@ -74,9 +74,9 @@ pub call-shown : (out : List ℕ) (x : Result (List ℕ)) (short : Bool) {out₁
 call-shown out x short {out₁} {outcome = outcome} e s room w =
     w .is out x (subst (λ (b : Bool). Says (leaves out (unlessShort b x)) out₁ outcome) e s) room
 
-full : {d t a w : ℕ} → draftLength ≤ d → tableLength ≤ t → arenaLength ≤ a → workLength ≤ w → isShort d t a w ≡ false
+full : {d t a m w : ℕ} → draftLength ≤ d → tableLength ≤ t → m ≤ a → workLength ≤ w → isShort d t a m w ≡ false
 unfolding isShort
-full {d = d} {t = t} {a = a} {w = w} hd ht ha hw = simp (le-ltb d draftLength hd, le-ltb t tableLength ht, le-ltb a arenaLength ha, le-ltb w workLength hw)
+full {d = d} {t = t} {a = a} {m = m} {w = w} hd ht ha hw = simp (le-ltb d draftLength hd, le-ltb t tableLength ht, le-ltb a m ha, le-ltb w workLength hw)
 
 pub canon-shown : (text out : List ℕ) {draft table arena work out₁ draft₁ table₁ arena₁ work₁ out′ : List ℕ} {outcome : Outcome} {r : ℕ}
     → draftLength ≡ length draft → tableLength ≡ length table → arenaLength ≡ length arena → workLength ≡ length work
@@ -89,10 +89,10 @@ canon-shown text out {out′ = out′} {r = r} ed et ea ew c l w = record {
       (call-shown out (canon text (length out)) _ (full (omega arith) (omega arith) (omega arith) (omega arith)) (c .says) (omega arith) w);
 }
 
-recheck-full : {d o t a w : ℕ} → draftLength ≤ d → tableLength ≤ o → tableLength ≤ t → lineLength ≤ a → workLength ≤ w → recheckShort d o t a w ≡ false
-unfolding recheckShort
-recheck-full {d} {o} {t} {a} {w} hd ho ht ha hw =
-    simp (full {d = d} {t = t} {a = a} {w = w} hd ht (omega arith) hw, le-ltb o tableLength ho, le-ltb a lineLength ha)
+recheck-full : (draft old table arena work : List ℕ) → draftLength ≡ length draft → tableLength ≡ length old → tableLength ≡ length table
+    → lineLength ≡ length arena → workLength ≡ length work → recheckShort draft old table arena work ≡ false
+recheck-full draft old table arena work ed eo et ea ew =
+    rw (le-ltb (length old) tableLength (omega arith)) (full (omega arith) (omega arith) (omega arith) (omega arith))
 
 pub recheck-shown : (oldText newText listing out : List ℕ)
     {draft old table arena work out₁ draft₁ old₁ table₁ arena₁ work₁ out′ : List ℕ} {outcome : Outcome} {r : ℕ}
@@ -100,11 +100,10 @@ pub recheck-shown : (oldText newText listing out : List ℕ)
     → Rechecked oldText newText listing out draft old table arena work out₁ draft₁ old₁ table₁ arena₁ work₁ outcome → length out₁ ≡ length out
     → ShowsOutcome outcome out₁ out′ r → AnswersRecheck oldText newText listing out out′ r
 unfolding recheckCall
-recheck-shown oldText newText listing out {out′ = out′} {r = r} ed eo et ea ew c l w = record {
+recheck-shown oldText newText listing out {draft} {old} {table} {arena} {work} {out′ = out′} {r = r} ed eo et ea ew c l w = record {
   is = λ e.
       subst (λ (n : ℕ). Shows (printed (recheck oldText newText listing n)) out′ r) e
-      (call-shown out (recheck oldText newText listing (length out)) _ (recheck-full (omega arith) (omega arith) (omega arith) (omega arith) (omega arith))
-      (c .says) (omega arith) w);
+      (call-shown out (recheck oldText newText listing (length out)) _ (recheck-full draft old table arena work ed eo et ea ew) (c .called .says) (omega arith) w);
 }
 
 -- recheck's three parts, as the code has them
@@ -113,7 +112,7 @@ parts-are : (input : List ℕ) {p q : Part} {a b : ℕ} → UntilNext input 0 p 
     ≡ recheck (take (p .to) input) (take (q .to - q .from) (drop (q .from) input)) (take (length input - b) (drop b input)) lent
 parts-are input {p} {q} {a} {b} u h v k =
     let back : splitNext (drop (behindOf (length input) (p .to)) input)
-      ≡ record { front = slice a (q .to) input; back = drop (behindOf (length input) (q .to)) input } =
+    ≡ record { front = slice a (q .to) input; back = drop (behindOf (length input) (q .to)) input } =
     ap (λ (n : ℕ). splitNext (drop n input)) (sym (h .is)) ∙ v .is in
     let new : slice a (q .to) input ≡ take (q .to - q .from) (drop (q .from) input) =
     ap (λ (n : ℕ). slice n (q .to) input) (sym (v .start)) ∙ part-slice (q .from) (q .to) input (v .order) in

@@ -5,8 +5,8 @@ use mathlib.Core.List.{List}
 use lib.ListN.{length, take}
 use Rattle.rules.specs.Table.{Result}
 use Rattle.rules.specs.Calls.{leaves, recheck, printed, lent, canonProgram, recheckProgram}
-use Rattle.answers.specs.Outcomes.{Says}
-use Rattle.answers.specs.declared.outcome.Outcome.{Outcome}
+use Rattle.outcomes.specs.Outcomes.{Says}
+use Rattle.outcomes.specs.declared.Outcome.{Outcome}
 
 -- the first r bytes of the output are this text
 pub record Shows (text out′ : List ℕ) (r : ℕ) : Type 0 where

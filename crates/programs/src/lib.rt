@@ -5,13 +5,13 @@ ghost use lib.ListN.{length};
 ghost use Rattle.layout.specs.Layout.{draftLength, tableLength, arenaLength, lineLength, workLength};
 ghost use Rattle.programs.specs.Shows.{ShowsOutcome, AnswersCanon, AnswersRecheck, AnswersParts};
 ghost use Rattle.programs.specs.Parts.{Begins, IsNext, Behind, UntilNext};
-use answers::outcome::Outcome;
 use canon_call::canon;
 use layout::ArenaSlice;
 use layout::DraftSlice;
 use layout::TableSlice;
 use layout::WorkSlice;
 use listing::lines;
+use outcomes::Outcome;
 use recheck_call::recheck;
 
 fn draft_room() -> [u8; DraftSlice::LENGTH]
@@ -65,7 +65,17 @@ fn answer_recheck(old: &[u8], new: &[u8], listing: &[u8], out: &mut [u8]) -> u32
     let mut table = table_room();
     let mut arena = line_room();
     let mut work = work_room();
-    let r = recheck(old, new, listing, out, &mut draft, &mut old_table, &mut table, &mut arena, &mut work);
+    let r = recheck(
+        old,
+        new,
+        listing,
+        out,
+        &mut draft,
+        &mut old_table,
+        &mut table,
+        &mut arena,
+        &mut work,
+    );
     shown(r, out)
 }
 
@@ -137,7 +147,12 @@ pub fn answer_parts(input: &[u8], out: &mut [u8]) -> u32
     let new_start = new.from;
     let new_end = new.to;
     let rest = behind(input, new_end);
-    answer_recheck(&input[..old_end], &input[new_start..new_end], &input[rest..], out)
+    answer_recheck(
+        &input[..old_end],
+        &input[new_start..new_end],
+        &input[rest..],
+        out,
+    )
 }
 
 // The first n bytes of a slice written to standard output, as far as it has them.

@@ -4,9 +4,9 @@ use mathlib.Core.Bool.{Bool, true, false, not}
 use Prim.Native.Nat.{ℕ, _+_, _≤_, _<_}
 use native.Mathlib.Omega.{arith}
 use mathlib.Core.List.{List}
-use lib.ListN.{length, getD, length-map}
+use lib.ListN.{length, getD, length-map, replicate}
 use lib.Dec.{ltb}
-use borrow.Author.Tests.{ltb-false, not-true, not-false}
+use borrow.Author.Tests.{ltb-false, lt-ltb, le-ltb, not-true, not-false}
 use Rattle.cells.specs.Part.{if, cell, run}
 use Rattle.cells.specs.Clears.{Clears}
 use Rattle.cells.proofs.Parts.{run-length, run-ext, run-getD}
@@ -27,47 +27,26 @@ use Rattle.prepare.specs.declared.Prepared.{Prepared}
 use Rattle.prepare.specs.Prepares.{Number, FirstRoot, rootAt, IsPrepared, Prepares}
 use Rattle.prepare.proofs.Prepares.{same-table, many, read-kept}
 use Rattle.prepare.proofs.Facts.{roots-are}
-use Rattle.listing.specs.declared.old.Old.{Old}
-use Rattle.listing.specs.declared.old.Old.the-variants.{InForm, Refused as OldRefused}
-use Rattle.listing.specs.Olds.{RootsAt, asked, rootSpan, oldOf, Lies}
-use Rattle.listing.specs.Olds.{Read as ReadOld}
-use Rattle.affected.specs.Compares.{Comparable}
+use Rattle.old_listing.specs.declared.Old.{Old}
+use Rattle.old_listing.specs.declared.Old.the-variants.{InForm, Refused as OldRefused}
+use Rattle.old_listing.specs.Olds.{RootsAt, asked, rootSpan, oldOf, Lies}
+use Rattle.old_listing.specs.Olds.{Read as ReadOld}
+use Rattle.compare.specs.Compares.{Comparable}
 use Rattle.affected.specs.Reaches.{FlagsRedone}
-use Rattle.affected.proofs.Comparing.{same-counts}
+use Rattle.compare.proofs.Comparing.{same-counts}
 use Rattle.affected.proofs.Searching.{searched, root-ids}
-use Rattle.answers.specs.Outcomes.{Copies, Says}
+use Rattle.lang_check.specs.Roots.{LentTo}
+use Rattle.outcomes.specs.Outcomes.{Short, Says, Wiped}
 use Rattle.answers.specs.Runs.{Fresh}
-use Rattle.answers.specs.declared.outcome.Outcome.{Outcome}
-use Rattle.answers.specs.declared.outcome.Outcome.the-variants.{Written, Refused}
-use Rattle.answers.proofs.Promises.{too-long, written-anew, copied-out, refused-read, accepted-read}
+use Rattle.answers.specs.Mixes.{OldLines, Noted}
+use Rattle.answers.specs.Asks.{Delivers}
+use Rattle.outcomes.specs.declared.Outcome.{Outcome}
+use Rattle.outcomes.specs.declared.Outcome.the-variants.{Refused}
+use Rattle.answers.specs.declared.asked.Asked.the-variants.{Mixed}
+use Rattle.outcomes.proofs.Promises.{long-enough, says-as, refused-as, called}
+use Rattle.answers.proofs.Delivered.{refused-read, accepted-read}
 use Rattle.answers.proofs.Running.{running-on, fresh-read, fresh-prepared}
-use Rattle.recheck_call.specs.Mixes.{OldLines, Noted, WritesText}
-use Rattle.recheck_call.specs.Rechecked.{RecheckShort, Delivers, Lists, Before, FlagsAndLists, recheckOf, ComparesBoth, ReadsNew, Answers}
-use Rattle.recheck_call.proofs.Shorts.{none-short}
-
--- each way out of `deliver`
-module _ {listing out draft old table arena work : List ℕ} {g : Prepared} {size : ℕ} where
-  pub deliver-none : length out < size → Delivers listing out draft old table g arena work size out (Refused 12 0)
-  deliver-none h = record { is = λ {T₁} {T₂} {texts} u n w l. too-long (recheckText T₁ T₂ texts) out (w .size) h }
-
-  pub deliver-anew : {out′ table′ : List ℕ} {r : ℕ} → size ≤ length out → WritesText listing old table g arena work out table′ out′ r
-      → Delivers listing out draft old table g arena work size out′ (Written size)
-  deliver-anew h a = record { is = λ {T₁} {T₂} {texts} u n w l. written-anew (recheckText T₁ T₂ texts) out (w .size) h (a .is u n) }
-
-  pub deliver-copy : {out′ : List ℕ} → size ≤ length out → size ≤ length draft → Copies out draft size out′
-      → Delivers listing out draft old table g arena work size out′ (Written size)
-  deliver-copy h d c = record { is = λ {T₁} {T₂} {texts} u n w l. copied-out (recheckText T₁ T₂ texts) out w h d l c }
-
--- what `list` comes to: written into the draft, and brought to the output
-pub listed : {listing out draft old table arena work work₁ draft₂ table₂ arena₂ work₂ out′ : List ℕ} {g : Prepared} {size : ℕ} {r : Outcome}
-    → length work₁ ≡ length work → WritesText listing old table g arena work₁ draft table₂ draft₂ size
-    → length draft₂ ≡ length draft → length arena₂ ≡ length arena → length work₂ ≡ length work₁
-    → Delivers listing out draft₂ old table₂ g arena₂ work₂ size out′ r → Lists listing out old table g arena work out′ r
-listed lw w ld la lw₂ d = record {
-  is = λ u n.
-      let v = running-on u refl refl lw in
-      d .is (running-on v (w .kept v (n .lines)) la lw₂) n (w .is v n) ld;
-}
+use Rattle.recheck_call.specs.Rechecked.{recheckShort, Before, recheckOf, ComparesBoth, Answers, Rechecked}
 
 -- the entries that are counted
 counted : {text table : List ℕ} {t : Table} {T : rules.Table} {g : Prepared} → tableOf text ≡ accepted T → IsPrepared text t T table g
@@ -75,10 +54,15 @@ counted : {text table : List ℕ} {t : Table} {T : rules.Table} {g : Prepared} �
 unfolding firstPass
 counted {text} {table} {t} {T} e q = sym (q .knows .count) ∙ many text table t T (q .read) e
 
--- what `flag_and_list` comes to: prepared, flagged, and listed
+-- two tables with as many lines of each kind, and the old lines of the roots
+pub record Flagged (listing out old table : List ℕ) (t : Table) (arena work out′ : List ℕ) (r : Outcome) : Type 0 where
+  pub is : {T₁ T₂ : rules.Table} {texts : List (List ℕ)} → Before T₁ t old → Fresh T₂ t table arena work → OldLines listing texts old (t .roots)
+      → Says (leaves out (fits (length out) (recheckText T₁ T₂ texts))) out′ r
+
+-- prepared, flagged, and brought to the output
 pub flagged : {listing out old table arena work table₁ old₁ work₁ out′ : List ℕ} {t : Table} {g : Prepared} {r : Outcome}
     → Prepares table t table₁ g → length table₁ ≡ length table → FlagsRedone old table₁ work (g .canon) (g .first) (g .roots) old₁
-    → length work₁ ≡ length work → Lists listing out old₁ table₁ g arena work₁ out′ r → FlagsAndLists listing out old table t arena work out′ r
+    → length work₁ ≡ length work → Delivers listing out old₁ table₁ g arena work₁ Mixed out′ r → Flagged listing out old table t arena work out′ r
 flagged {listing} {out} {old} {table} {arena} {work} {table₁} {old₁} {work₁} {out′} {t} {g} {r} p l h lw s = record {
   is = λ {T₁} {T₂} {texts} b f lines.
       let q : IsPrepared (f .text) t T₂ table₁ g = p .is (f .text) T₂ (f .read) (f .is) (f .lent .table) (f .zeros) in
@@ -100,16 +84,8 @@ flagged {listing} {out} {old} {table} {arena} {work} {table₁} {old₁} {work�
             work (f .lent .work))
             (root-ids q) (omega (arith, b .long));
       } in
-      s .is (running-on (fresh-prepared f p l) refl refl lw) noted;
+      s .is (recheckText T₁ T₂ texts) (running-on (fresh-prepared f p l) refl refl lw) (record { before = T₁; texts = texts; noted = noted; is = refl });
 }
-
--- what a call comes to, in other words
-says-as : (out : List ℕ) {out′ : List ℕ} {r : Outcome} {x y : Result (List ℕ)} → x ≡ y → Says (leaves out y) out′ r → Says (leaves out x) out′ r
-says-as out {out′} {r} e s = subst (λ (x : Result (List ℕ)). Says (leaves out x) out′ r) (sym e) s
-
--- a refusal leaves the output as found
-refused-as : (out : List ℕ) {x : Result (List ℕ)} {k l : ℕ} → x ≡ refused k l → Says (leaves out x) out (Refused k l)
-refused-as out e = says-as out e (record { outcome = refl; output = refl })
 
 -- two tables that may be compared or not
 module _ (T₁ T₂ : rules.Table) (listing : List ℕ) (room : ℕ) where
@@ -194,7 +170,7 @@ module _ {listing out old table arena work : List ℕ} {u t : Table} {b : Bool} 
     }
 
     pub listed-both : {arena₁ out′ : List ℕ} {r : Outcome} → a ≡ InForm → length old₁ ≡ length old → length arena₁ ≡ length arena
-        → FlagsAndLists listing out old₁ table t arena₁ work out′ r → ComparesBoth listing out old u table t arena work out′ r
+        → Flagged listing out old₁ table t arena₁ work out′ r → ComparesBoth listing out old u table t arena work out′ r
     listed-both {arena₁} {out′} {r} e lo la s = record {
       is = λ {T₁} {T₂} o f l.
           let few = few-lines f n-is in
@@ -229,7 +205,12 @@ module _ {listing out old table arena work : List ℕ} {u t : Table} {b : Bool} 
           says-as out (alike-of T₁ T₂ listing (length out) like (accepted texts) known) (s .is before fresh lines);
     }
 
--- each way out of `read_new`: what was cleared of the new table before it was read
+-- a new table, where the old one was accepted
+pub record ReadsNew (newText listing out old : List ℕ) (u : Table) (table arena work out′ : List ℕ) (r : Outcome) : Type 0 where
+  pub is : {T₁ : rules.Table} → Before T₁ u old → LentTo table arena work → lineLength ≤ length arena
+      → Says (leaves out (then (tableOf newText) (λ (T₂ : rules.Table). recheckOf T₁ T₂ listing (length out)))) out′ r
+
+-- what was read of it behind facts that were cleared
 module _ {newText listing out old table arena work table₁ table₂ : List ℕ} {u : Table} {a : Answer} (q : ReadInto newText table₁ table₂ a) where
   pub refused-new : {k l : ℕ} → a ≡ TableRefused k l → ReadsNew newText listing out old u table arena work out (Refused k l)
   refused-new {k} {l} e = record {
@@ -252,29 +233,48 @@ unfolding recheck
 by-old oldText newText listing room x e =
     ap (λ (m : Result rules.Table). then m (λ (T₁ : rules.Table). then (tableOf newText) (λ (T₂ : rules.Table). recheckOf T₁ T₂ listing room))) e
 
--- each way out of `answer`; b is what the test for a short scratch said
-module _ {oldText newText listing out draft old table arena work : List ℕ} {b : Bool}
-    (h : RecheckShort (length draft) (length old) (length table) (length arena) (length work) b) where
-  answer-by : {out′ : List ℕ} {r : Outcome} (c : Bool) → b ≡ c → Says (leaves out (unlessShort c (recheck oldText newText listing (length out)))) out′ r
+-- what the tests for a short scratch come to
+tested : (draft old table arena work : List ℕ) {b c : Bool} → tableLength ≤ length old
+    → Short (length draft) (length table) (length arena) lineLength (length work) b → b ≡ c → recheckShort draft old table arena work ≡ c
+tested draft old table arena work room h e = rw (le-ltb (length old) tableLength room) (sym (h .is) ∙ e)
+
+-- each way out of `answer`; b is what the second test said
+module _ {oldText newText listing out draft old table arena work : List ℕ} where
+  answer-by : {out′ : List ℕ} {r : Outcome} (c : Bool) → recheckShort draft old table arena work ≡ c
+      → Says (leaves out (unlessShort c (recheck oldText newText listing (length out)))) out′ r
       → Answers oldText newText listing out draft old table arena work out′ r
   unfolding recheckCall
   answer-by {out′} {r} c e s = record {
-    is = subst (λ (x : Bool). Says (leaves out (unlessShort x (recheck oldText newText listing (length out)))) out′ r) (sym e ∙ h .is) s;
+    is = subst (λ (x : Bool). Says (leaves out (unlessShort x (recheck oldText newText listing (length out)))) out′ r) (sym e) s;
   }
 
-  pub short-answer : b ≡ true → Answers oldText newText listing out draft old table arena work out (Refused 20 0)
-  short-answer e = answer-by true e (record { outcome = refl; output = refl })
+  pub short-old : length old < tableLength → Answers oldText newText listing out draft old table arena work out (Refused 20 0)
+  short-old h = answer-by true (simp (lt-ltb (length old) tableLength h)) (record { outcome = refl; output = refl })
 
-  module _ (long : b ≡ false) {old₁ : List ℕ} {a : Answer} (q : ReadInto oldText old old₁ a) where
-    pub refused-answer : {k l : ℕ} → a ≡ TableRefused k l → Answers oldText newText listing out draft old table arena work out (Refused k l)
-    refused-answer {k} {l} e = answer-by false long (refused-as out (by-old oldText newText listing (length out) (refused k l) (refused-read q e)))
+  module _ (room : tableLength ≤ length old) {b : Bool} (h : Short (length draft) (length table) (length arena) lineLength (length work) b) where
+    pub short-answer : b ≡ true → Answers oldText newText listing out draft old table arena work out (Refused 20 0)
+    short-answer e = answer-by true (tested draft old table arena work room h e) (record { outcome = refl; output = refl })
 
-    pub new-answer : {u : Table} {out′ : List ℕ} {r : Outcome} → a ≡ Accepted u → ReadsNew newText listing out old₁ u table arena work out′ r
-        → Answers oldText newText listing out draft old table arena work out′ r
-    new-answer {u} e s =
-        let n = none-short h long in
-        let is = accepted-read q e in
-        let before : Before (rules.fromSections (tableFrom u old₁)) u old₁ =
-        record { text = oldText; is = is; read = subst (Read oldText old₁) e (q .read); long = omega (arith, n .0, q .apart .same-length) } in
-        answer-by false long
-        (says-as out (by-old oldText newText listing (length out) _ is) (s .is before (record { table = n .2; arena = n .3; work = n .4 }) (n .1)))
+    module _ (long : b ≡ false) {old₁ : List ℕ} {a : Answer} (q : ReadInto oldText old old₁ a) where
+      pub refused-answer : {k l : ℕ} → a ≡ TableRefused k l → Answers oldText newText listing out draft old table arena work out (Refused k l)
+      refused-answer {k} {l} e =
+          answer-by false (tested draft old table arena work room h long) (refused-as out (by-old oldText newText listing (length out) (refused k l) (refused-read q e)))
+
+      pub new-answer : {u : Table} {out′ : List ℕ} {r : Outcome} → a ≡ Accepted u → ReadsNew newText listing out old₁ u table arena work out′ r
+          → Answers oldText newText listing out draft old table arena work out′ r
+      new-answer {u} e s =
+          let n = long-enough h long in
+          let is = accepted-read q e in
+          let before : Before (rules.fromSections (tableFrom u old₁)) u old₁ =
+          record { text = oldText; is = is; read = subst (Read oldText old₁) e (q .read); long = omega (arith, q .apart .same-length) } in
+          answer-by false (tested draft old table arena work room h long)
+          (says-as out (by-old oldText newText listing (length out) _ is)
+          (s .is before (record { table = n .0; arena = omega (arith, n .1); work = n .2 }) (n .1)))
+
+-- what `recheck` comes to
+pub rechecked : {oldText newText listing out draft old table arena work draft₁ table₁ arena₁ work₁ out′ draft′ old′ table′ arena′ work′ : List ℕ} {n : ℕ}
+    {r : Outcome} → Answers oldText newText listing out draft old table arena work out′ r
+    → length draft₁ ≡ length draft → n ≡ length old → length table₁ ≡ length table → length arena₁ ≡ length arena → length work₁ ≡ length work
+    → old′ ≡ replicate n 0 → Wiped draft₁ table₁ arena₁ work₁ draft′ table′ arena′ work′
+    → Rechecked oldText newText listing out draft old table arena work out′ draft′ old′ table′ arena′ work′ r
+rechecked s d o t a w zo z = record { called = called (s .is) d t a w z; old-zero = record { is = zo ∙ ap (λ (k : ℕ). replicate k 0) o } }

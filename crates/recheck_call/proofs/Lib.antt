@@ -1,5 +1,3 @@
 -- What the functions' proofs cite, and that the promise leaves nothing open.
-pub mod Shorts
-pub mod Mixing
 pub mod Calling
 pub mod Unique

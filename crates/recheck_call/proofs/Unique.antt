@@ -2,16 +2,12 @@
 use mathlib.Core.Path.{_≡_, sym, _∙_}
 use Prim.Native.Nat.{ℕ}
 use mathlib.Core.List.{List}
-use Rattle.answers.specs.declared.outcome.Outcome.{Outcome}
-use Rattle.answers.proofs.Promises.{outcome-one}
+use Rattle.outcomes.specs.declared.Outcome.{Outcome}
+use Rattle.outcomes.proofs.Promises.{Same, called-unique}
 use Rattle.recheck_call.specs.Rechecked.{Rechecked}
 
 -- the outcome, the output and every scratch
 pub recheck-unique : (oldText newText listing out : List ℕ) {draft old table arena work o d s t a w o′ d′ s′ t′ a′ w′ : List ℕ} {r r′ : Outcome}
     → Rechecked oldText newText listing out draft old table arena work o d s t a w r
-    → Rechecked oldText newText listing out draft old table arena work o′ d′ s′ t′ a′ w′ r′
-    → (r ≡ r′) × (o ≡ o′) × (d ≡ d′) × (s ≡ s′) × (t ≡ t′) × (a ≡ a′) × (w ≡ w′)
-recheck-unique oldText newText listing out {r = r} {r′ = r′} x y =
-    (outcome-one r r′ (x .says .outcome ∙ sym (y .says .outcome)), x .says .output ∙ sym (y .says .output),
-    x .draft-zero .is ∙ sym (y .draft-zero .is), x .old-zero .is ∙ sym (y .old-zero .is), x .table-zero .is ∙ sym (y .table-zero .is),
-    x .arena-zero .is ∙ sym (y .arena-zero .is), x .work-zero .is ∙ sym (y .work-zero .is))
+    → Rechecked oldText newText listing out draft old table arena work o′ d′ s′ t′ a′ w′ r′ → Same o d t a w r o′ d′ t′ a′ w′ r′ × (s ≡ s′)
+recheck-unique oldText newText listing out x y = (called-unique (x .called) (y .called), x .old-zero .is ∙ sym (y .old-zero .is))

@@ -1,2 +1,1 @@
-pub mod Mixes
 pub mod Rechecked

@@ -53,8 +53,14 @@ isBoth b = eqb b 3
 abbrev pub note : ℕ → Polarity → Run (Unit {0})
 note r pol = λ s.
     ok tt (record {
-      nodes = s .nodes; cells = s .cells; keys = s .keys; bits = setAt (s .bits) r (addBit (cell (s .bits) r) pol); ops = s .ops;
-      sorted = s .sorted; bailed = s .bailed })
+      nodes = s .nodes;
+      cells = s .cells;
+      keys = s .keys;
+      bits = setAt (s .bits) r (addBit (cell (s .bits) r) pol);
+      ops = s .ops;
+      sorted = s .sorted;
+      bailed = s .bailed;
+    })
 
 abbrev pub hasBailed : Run Bool
 hasBailed = λ s. ok (s .bailed) s
@@ -75,7 +81,14 @@ exceeds p ops = both (eqb (ops % 512) 0) (λ _. ltb (p .budget) (p .spent + ops)
 abbrev pub check-budget : Pass → Run Bool
 check-budget p = λ s.
     ok (exceeds p (s .ops)) (record {
-      nodes = s .nodes; cells = s .cells; keys = s .keys; bits = s .bits; ops = s .ops; sorted = s .sorted; bailed = exceeds p (s .ops) })
+      nodes = s .nodes;
+      cells = s .cells;
+      keys = s .keys;
+      bits = s .bits;
+      ops = s .ops;
+      sorted = s .sorted;
+      bailed = exceeds p (s .ops);
+    })
 
 abbrev pub slot : ℕ → Polarity → ℕ
 slot id pol = 2 * id + sign pol
@@ -146,9 +159,9 @@ normalized p rest Negative ms = do
   xs ← ask (λ (ns : List Node). remove-redundant-negations (p .functor) ns one)
   contradicts ← ask (λ (ns : List Node). has-type-contradiction (p .functor) ns xs)
   if contradicts (λ _. store Bottom)
-    (λ _. do
-      ys ← factor-shared-from-intersection xs
-      settle (topIfEmptied Negative ms) rest Intersection ys)
+      (λ _. do
+        ys ← factor-shared-from-intersection xs
+        settle (topIfEmptied Negative ms) rest Intersection ys)
 
 -- expand_bounds; rest is its fallback
 unfoldable pub expand-bounds : Pass → Visit → Run ℕ → List ℕ → Polarity → Run ℕ
@@ -238,7 +251,7 @@ expand-bounds-empty-fallback zero p t v g id pol = variable p id
 expand-bounds-empty-fallback (suc c) p t v g id pol = do
   bailed ← hasBailed
   if (empty (beginList p t id pol) || both bailed (λ _. began g pol)) (λ _. variable p id)
-    (λ _. expand-bounds p v (expand-bounds-empty-fallback c p t v (begin bailed g pol) id (flip pol)) (beginList p t id pol) (flip pol))
+      (λ _. expand-bounds p v (expand-bounds-empty-fallback c p t v (begin bailed g pol) id (flip pol)) (beginList p t id pol) (flip pol))
 
 abbrev pub chain : ℕ
 chain = 4
@@ -343,8 +356,8 @@ interRule p t v a b pol = do
   ms ← concreteOf p ys
   contradicts ← ask (λ (ns : List Node). has-type-contradiction (p .functor) ns ms)
   if contradicts
-    (λ _. if (isVariable (t a) || isVariable (t b)) (λ _. interRetry p t v a b pol ys) (λ _. store Bottom))
-    (λ _. interRest p pol ys ms)
+      (λ _. if (isVariable (t a) || isVariable (t b)) (λ _. interRetry p t v a b pol ys) (λ _. store Bottom))
+      (λ _. interRest p pol ys ms)
 
 abbrev pub unionNormalized : Polarity → List ℕ → Run (List ℕ)
 unionNormalized Positive ms = ask (λ (ns : List Node). absorb-subsumed-union-members ns (remove-tautological-pairs ns ms))
@@ -406,13 +419,13 @@ unfoldable pub entered : Pass → ℕ → Polarity → Run ℕ → Run ℕ
 entered p id pol w = do
   bailed ← hasBailed
   if bailed (λ _. variable p id)
-    (λ _. do
-      _ ← count-one
-      over ← check-budget p
-      if over (λ _. variable p id)
-        (λ _. do
-          k ← keyAt (slot id pol)
-          look p id w k))
+      (λ _. do
+        _ ← count-one
+        over ← check-budget p
+        if over (λ _. variable p id)
+            (λ _. do
+              k ← keyAt (slot id pol)
+              look p id w k))
 
 -- canonicalize_child, with as many free keys as the first argument says: "6 .. a 97th key would be in progress", tested last
 unfoldable pub visit : ℕ → Pass → Reader → Visit
@@ -445,12 +458,24 @@ abbrev pub afterSecond : ℕ → Bool → Out ℕ → Answer
 afterSecond ops sorted (no k) = refusedWith k
 afterSecond ops sorted (ok x s) =
     shown (record {
-      passes = 2; operations = ops + s .ops; sorted = sorted || s .sorted; bailed = s .bailed; nodes = s .nodes; root = x })
+      passes = 2;
+      operations = ops + s .ops;
+      sorted = sorted || s .sorted;
+      bailed = s .bailed;
+      nodes = s .nodes;
+      root = x;
+    })
 
 abbrev pub withSet : Pass → State → Pass
 withSet p s = record {
-  count = p .count; rep = p .rep; marked = p .marked; preserved = λ (r : ℕ). isBoth (cell (s .bits) r);
-  budget = p .budget; spent = s .ops; functor = p .functor }
+  count = p .count;
+  rep = p .rep;
+  marked = p .marked;
+  preserved = λ (r : ℕ). isBoth (cell (s .bits) r);
+  budget = p .budget;
+  spent = s .ops;
+  functor = p .functor;
+}
 
 -- "If any representative was seen in both polarities, a second pass runs with that set .. otherwise the first"
 abbrev pub afterFirst : Pass → Reader → ℕ → Polarity → Out ℕ → Answer
@@ -480,7 +505,8 @@ firstPass t = record {
   preserved = λ (r : ℕ). false;
   budget = t .budget;
   spent = 0;
-  functor = functorNumber (t .names) }
+  functor = functorNumber (t .names);
+}
 
 -- the answer of a root of a table
 unfoldable pub answerOf : Table → ℕ → Polarity → Answer

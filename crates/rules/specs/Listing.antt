@@ -193,7 +193,7 @@ abbrev pub nodesAfter : Root → Option (List ℕ) → Option ℕ
 nodesAfter root none = none
 nodesAfter root (some row) =
     if (both (both (eqb (cell row 0) rootHead) (λ _. forRoot root row))
-      (λ _. both (within 1 2 (cell row passesWord)) (λ _. within 1 mostNodes (cell row nodesWord))))
+    (λ _. both (within 1 2 (cell row passesWord)) (λ _. within 1 mostNodes (cell row nodesWord))))
     (λ _. some (cell row nodesWord))
     (λ _. if (both (both (eqb (cell row 0) refusedHead) (λ _. forRoot root row)) (λ _. within 6 9 (cell row numberWord)))
     (λ _. some 0)
@@ -235,5 +235,5 @@ oldListing names roots text =
     if (ltb mostText (length text)) (λ _. refused 11 0)
     (λ _. nextLine 1 (pieces lineFeed text)
     (λ l ls. if (isAnswers (length roots) (rowOf headKinds l))
-      (λ _. takeRoots names roots (record { text = []; line = 2; rest = ls }))
-      (λ _. refused 11 1)))
+    (λ _. takeRoots names roots (record { text = []; line = 2; rest = ls }))
+    (λ _. refused 11 1)))

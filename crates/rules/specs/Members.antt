@@ -264,17 +264,17 @@ merge-attrset-intersection ms = do
   sets ← ask (λ (ns : List Node). attrsOf ns ms)
   others ← ask (λ (ns : List Node). filter (λ (m : ℕ). not (is ns attrSetKind m)) ms)
   if (empty sets) (λ _. give ms)
-    (λ _. do
-      x ← merged sets
-      give (others ++ (x ∷ [])))
+      (λ _. do
+        x ← merged sets
+        give (others ++ (x ∷ [])))
 
 -- remove_redundant_negations: a Neg goes if what it holds is disjoint from every member with a known constructor
 unfoldable pub remove-redundant-negations : ℕ → List Node → List ℕ → List ℕ
 remove-redundant-negations functor ns ms =
     if (empty (filter (isConcrete ns) ms)) (λ _. ms)
     (λ _. filter
-      (λ (m : ℕ). not (any (λ (a : ℕ). all (λ (c : ℕ). are-output-types-disjoint functor ns c a) (filter (isConcrete ns) ms)) (innerOf (nodeAt ns m))))
-      ms)
+    (λ (m : ℕ). not (any (λ (a : ℕ). all (λ (c : ℕ). are-output-types-disjoint functor ns c a) (filter (isConcrete ns) ms)) (innerOf (nodeAt ns m))))
+    ms)
 
 -- all of one kind, and that not a primitive
 abbrev pub allSameNonPrimitive : List Node → List ℕ → Bool
@@ -331,18 +331,25 @@ simplify-union-neg-intersection functor ms = do
   unions ← ask (λ (ns : List Node). any (is ns unionKind) ms)
   changed ← ask (λ (ns : List Node). any (takesSome ns negs) ms)
   if (empty negs) (λ _. give ms)
-    (λ _. if (not unions) (λ _. ask (λ (ns : List Node). remove-redundant-negations functor ns ms))
-    (λ _. do
-      xs ← simplifyEach negs ms
-      if changed
-        (λ _. ask (λ (ns : List Node). remove-redundant-negations functor ns (filter (λ (m : ℕ). not (is ns bottomKind m)) xs)))
-        (λ _. give xs)))
+      (λ _. if (not unions) (λ _. ask (λ (ns : List Node). remove-redundant-negations functor ns ms))
+      (λ _. do
+        xs ← simplifyEach negs ms
+        if changed
+            (λ _. ask (λ (ns : List Node). remove-redundant-negations functor ns (filter (λ (m : ℕ). not (is ns bottomKind m)) xs)))
+            (λ _. give xs)))
 
 -- "sorted (1 if in either pass factoring shared two or more members)"
 abbrev pub markSorted : List ℕ → Run (Unit {0})
 markSorted xs = λ s.
     ok tt (record {
-      nodes = s .nodes; cells = s .cells; keys = s .keys; bits = s .bits; ops = s .ops; sorted = s .sorted || ltb 1 (length xs); bailed = s .bailed })
+      nodes = s .nodes;
+      cells = s .cells;
+      keys = s .keys;
+      bits = s .bits;
+      ops = s .ops;
+      sorted = s .sorted || ltb 1 (length xs);
+      bailed = s .bailed;
+    })
 
 -- each union without the shared members
 abbrev pub remainders : List ℕ → List ℕ → Run (List ℕ)

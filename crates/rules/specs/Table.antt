@@ -278,18 +278,48 @@ addRow t s row =
     (λ _. record { budget = cell row 1; names = t .names; entries = t .entries; pairs = t .pairs; marks = t .marks; roots = t .roots })
     (λ _. if (eqb s namesSection)
     (λ _. record {
-      budget = t .budget; names = t .names ++ (drop 1 row ∷ []); entries = t .entries; pairs = t .pairs; marks = t .marks; roots = t .roots })
+      budget = t .budget;
+      names = t .names ++ (drop 1 row ∷ []);
+      entries = t .entries;
+      pairs = t .pairs;
+      marks = t .marks;
+      roots = t .roots;
+    })
     (λ _. if (eqb s entriesSection)
     (λ _. record {
-      budget = t .budget; names = t .names; entries = t .entries ++ (row ∷ []); pairs = t .pairs; marks = t .marks; roots = t .roots })
+      budget = t .budget;
+      names = t .names;
+      entries = t .entries ++ (row ∷ []);
+      pairs = t .pairs;
+      marks = t .marks;
+      roots = t .roots;
+    })
     (λ _. if (eqb s pairsSection)
     (λ _. record {
-      budget = t .budget; names = t .names; entries = t .entries; pairs = t .pairs ++ (drop 1 row ∷ []); marks = t .marks; roots = t .roots })
+      budget = t .budget;
+      names = t .names;
+      entries = t .entries;
+      pairs = t .pairs ++ (drop 1 row ∷ []);
+      marks = t .marks;
+      roots = t .roots;
+    })
     (λ _. if (eqb s marksSection)
     (λ _. record {
-      budget = t .budget; names = t .names; entries = t .entries; pairs = t .pairs; marks = t .marks ++ (drop 1 row ∷ []); roots = t .roots })
+      budget = t .budget;
+      names = t .names;
+      entries = t .entries;
+      pairs = t .pairs;
+      marks = t .marks ++ (drop 1 row ∷ []);
+      roots = t .roots;
+    })
     (λ _. record {
-      budget = t .budget; names = t .names; entries = t .entries; pairs = t .pairs; marks = t .marks; roots = t .roots ++ (drop 1 row ∷ []) })))))
+      budget = t .budget;
+      names = t .names;
+      entries = t .entries;
+      pairs = t .pairs;
+      marks = t .marks;
+      roots = t .roots ++ (drop 1 row ∷ []);
+    })))))
 
 abbrev pub rowWeight : ℕ → List ℕ → ℕ
 rowWeight s row = if (eqb s entriesSection) (λ _. weight (entryOf row)) (λ _. 0)
@@ -422,8 +452,13 @@ rootOf row = record { id = cell row 0; sign = cell row 1 }
 
 abbrev pub fromSections : Sections → Table
 fromSections s = record {
-  budget = s .budget; names = s .names; entries = s .entries;
-  pairs = map pairOf (s .pairs); marks = map (λ (row : List ℕ). cell row 0) (s .marks); roots = map rootOf (s .roots) }
+  budget = s .budget;
+  names = s .names;
+  entries = s .entries;
+  pairs = map pairOf (s .pairs);
+  marks = map (λ (row : List ℕ). cell row 0) (s .marks);
+  roots = map rootOf (s .roots);
+}
 
 -- the table that a text says, or its refusal
 unfoldable pub tableOf : List ℕ → Result Table

@@ -215,7 +215,14 @@ ask f = λ s. ok (f (s .nodes)) s
 abbrev pub grown : Node → State → State
 grown n s =
     record {
-      nodes = s .nodes ++ (n ∷ []); cells = s .cells + cellsOf n; keys = s .keys; bits = s .bits; ops = s .ops; sorted = s .sorted; bailed = s .bailed }
+      nodes = s .nodes ++ (n ∷ []);
+      cells = s .cells + cellsOf n;
+      keys = s .keys;
+      bits = s .bits;
+      ops = s .ops;
+      sorted = s .sorted;
+      bailed = s .bailed;
+    }
 
 -- "Storing an equal node again takes nothing"; 8 before 9
 abbrev pub keep : Node → State → Option ℕ → Out ℕ

@@ -10,9 +10,9 @@ use borrow.Author.Tests.{lt-ltb, le-ltb}
 use Rattle.cells.specs.Part.{if}
 use Rattle.rules.specs.Table.{Result}
 use Rattle.rules.specs.Calls.{Left}
-use Rattle.answers.specs.Outcomes.{outcomeOf, Says}
-use Rattle.answers.specs.declared.outcome.Outcome.{Outcome}
-use Rattle.answers.specs.declared.outcome.Outcome.the-variants.{Written, Refused}
+use Rattle.outcomes.specs.Outcomes.{outcomeOf, Says}
+use Rattle.outcomes.specs.declared.Outcome.{Outcome}
+use Rattle.outcomes.specs.declared.Outcome.the-variants.{Written, Refused}
 use Rattle.canon_call.specs.Called.{Canon, CanonRoot}
 use Rattle.recheck_call.specs.Rechecked.{Rechecked}
 use Rattle.signatures.specs.Exports.{upper, codeOf, toldBy, Numbered, Code, Exported}
@@ -62,7 +62,7 @@ module _ (text out : List ℕ) {draft table arena work out′ draft′ table′ 
 pub recheck-exported : (oldText newText listing out : List ℕ) {draft old table arena work out′ draft′ old′ table′ arena′ work′ : List ℕ} {r : Outcome} {c : ℕ}
     → Rechecked oldText newText listing out draft old table arena work out′ draft′ old′ table′ arena′ work′ r → Code r c
     → Exported (Rechecked oldText newText listing out draft old table arena work out′ draft′ old′ table′ arena′ work′) c
-recheck-exported oldText newText listing out p k = exported p (said-not (p .says) (recheck-not oldText newText listing out _)) k
+recheck-exported oldText newText listing out p k = exported p (said-not (p .called .says) (recheck-not oldText newText listing out _)) k
 
 -- each way out of `code`
 module _ {r : Outcome} where

@@ -7,6 +7,7 @@ use mathlib.Core.Option.{Option, none, some}
 use lib.ListN.{length}
 use lib.Dec.{eqb, ltb}
 use Rattle.cells.specs.Part.{cell}
+use Rattle.cells.proofs.Choices.{by-branch}
 use Rattle.rules.specs.Ceilings.{mostText}
 use Rattle.rules.specs.Text.{lineFeed, pieces, rowOf}
 use Rattle.rules.specs.Table.{Root, Sections, Reading, nothing, Admission, admitted, fault, inOrder, over, add, ascends, frozenEntry, admit}
@@ -15,7 +16,6 @@ use Rattle.rules.specs.Table.{sectionsOf, tableOf}
 use Rattle.rules.specs.Listing.{headKinds, listingText, rootText, Taking, nextLine, takeLine, takeNode, takeNodes, nodeInForm, nodesAfter}
 use Rattle.rules.specs.Listing.{takeAfter, takeRoot, blank, atEnd, takeRoots, isAnswers, oldListing}
 use Rattle.rules.specs.Calls.{fits, canon, canonRoot, comparable, recheckText, recheck, leaves, unlessShort, canonCall, canonRootCall, recheckCall}
-use Rattle.laws.proofs.Told.{by-branch}
 
 -- a refusal's number is not 0
 abbrev pub NotZero : {A : Type 0} → Result A → Type 0
@@ -147,6 +147,6 @@ recheck-not old new listing out short =
     (then-not (tableOf old) _ (table-not old)
     (λ t. then-not (tableOf new) _ (table-not new)
     (λ u. by-branch NotZero (comparable t u) _ _
-      (then-not (oldListing (length (u .names)) (u .roots) listing) _ (old-not (length (u .names)) (u .roots) listing)
-      (λ texts. fits-not (length out) (recheckText t u texts)))
-      (omega arith))))
+    (then-not (oldListing (length (u .names)) (u .roots) listing) _ (old-not (length (u .names)) (u .roots) listing)
+    (λ texts. fits-not (length out) (recheckText t u texts)))
+    (omega arith))))

@@ -4,8 +4,8 @@ use Prim.Native.Nat.{ℕ, _+_, _*_, _/_, _%_, _≤_}
 use lib.Dec.{ltb}
 use Rattle.cells.specs.Part.{if}
 use Rattle.rules.specs.Text.{greatest}
-use Rattle.answers.specs.declared.outcome.Outcome.{Outcome}
-use Rattle.answers.specs.declared.outcome.Outcome.the-variants.{Written, Refused}
+use Rattle.outcomes.specs.declared.Outcome.{Outcome}
+use Rattle.outcomes.specs.declared.Outcome.the-variants.{Written, Refused}
 
 -- one more than a number of 32 bits can be
 abbrev pub upper : ℕ

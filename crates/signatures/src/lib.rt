@@ -2,9 +2,9 @@
 ghost use Rattle.canon_call.specs.Called.{Canon, CanonRoot};
 ghost use Rattle.recheck_call.specs.Rechecked.{Rechecked};
 ghost use Rattle.signatures.specs.Exports.{Code, Exported};
-use answers::outcome::Outcome;
 use canon_call::canon;
 use canon_call::canon_root;
+use outcomes::Outcome;
 use recheck_call::recheck;
 
 // An outcome as one number: a refusal's number and line, or 0 and the length written. It tells no other outcome of a call.
@@ -61,5 +61,15 @@ pub extern "C" fn pekonusit_recheck(
 ) -> u64
     ensures { λ r. ⌜ Exported (Rechecked (now («old_text» .entry)) (now («new_text» .entry)) (now (listing .entry)) (now (out .entry)) (now (draft .entry)) (now (old .entry)) (now (table .entry)) (now (arena .entry)) (now (work .entry)) (now (out .exit)) (now (draft .exit)) (now (old .exit)) (now (table .exit)) (now (arena .exit)) (now (work .exit))) r ⌝ }
 {
-    code(recheck(old_text, new_text, listing, out, draft, old, table, arena, work))
+    code(recheck(
+        old_text,
+        new_text,
+        listing,
+        out,
+        draft,
+        old,
+        table,
+        arena,
+        work,
+    ))
 }

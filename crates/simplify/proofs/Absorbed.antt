@@ -41,7 +41,7 @@ module _ {w : List ℕ} {a b n : ℕ} where
           is = λ {t} {u} s v.
               let m = fields .is s in
               all-here (covers t u) (fieldKeys (t .fields)) i (l .is s v) (omega (arith, length-map (t .fields) (λ (f : Field). f .key)))
-              (sym (not-true c e) ∙ g .is s v ∙ ap (covers t u) (key .is s (omega arith)))
+              (sym (not-true c e) ∙ g .is s v ∙ ap (covers t u) (key .is s (omega arith)));
         }
 
     pub covering-more : not c ≡ false → Covering w a b n (i + 1)
@@ -51,7 +51,7 @@ module _ {w : List ℕ} {a b n : ℕ} where
           is = λ {t} {u} s v.
               let m = fields .is s in
               all-more (covers t u) (fieldKeys (t .fields)) i (l .is s v) (omega (arith, length-map (t .fields) (λ (f : Field). f .key)))
-              (sym (not-false c e) ∙ g .is s v ∙ ap (covers t u) (key .is s (omega arith)))
+              (sym (not-false c e) ∙ g .is s v ∙ ap (covers t u) (key .is s (omega arith)));
         }
 
   pub covering-done : {i : ℕ} → Covering w a b n i → Fields w a n → n ≤ i → FieldsCover w a b true
@@ -59,7 +59,7 @@ module _ {w : List ℕ} {a b n : ℕ} where
       record {
         is = λ {t} {u} s v.
             let m = fields .is s in
-            all-done (covers t u) (fieldKeys (t .fields)) i (l .is s v) (omega (arith, length-map (t .fields) (λ (f : Field). f .key)))
+            all-done (covers t u) (fieldKeys (t .fields)) i (l .is s v) (omega (arith, length-map (t .fields) (λ (f : Field). f .key)));
       }
 
 -- two dyns, by how many there are
@@ -92,7 +92,7 @@ module _ {w : List ℕ} {a b x : ℕ} (m : Dyns w a x) where
               let p = m .is s in
               let q = n .is v in
               e ∙ ap₂ eqb (f .is s (omega (arith, has))) (g .is v (omega (arith, other)))
-              ∙ sym (same-both (t .dyn) (u .dyn) (λ z. has (p ∙ z)) (λ z. other (q ∙ z)))
+              ∙ sym (same-both (t .dyn) (u .dyn) (λ z. has (p ∙ z)) (λ z. other (q ∙ z)));
         }
 
 -- the ways of `subsumes`: node y is no set, or the tests of two sets decide one after another
@@ -117,7 +117,7 @@ module _ {w : List ℕ} {x y : ℕ} {c : Bool} (k : Is w 4 y c) where
   subsumes-other e =
       record {
         is = λ {q} {ns} {t} h lx ly g.
-            sym (ap (subsumesNode t) (no-attr (nodeAt ns y) (eqb-false (kindOf (nodeAt ns y)) 4 (sym (k .is h ly) ∙ not-true c e))))
+            sym (ap (subsumesNode t) (no-attr (nodeAt ns y) (eqb-false (kindOf (nodeAt ns y)) 4 (sym (k .is h ly) ∙ not-true c e))));
       }
 
   module _ {a b : ℕ} (e : not c ≡ false) (px : SetPlace w x a) (py : SetPlace w y b) where
@@ -127,7 +127,7 @@ module _ {w : List ℕ} {x y : ℕ} {c : Bool} (k : Is w 4 y c) where
           is = λ {q} {ns} {t} h lx ly i.
               let n = nodeAt ns y in
               let z = sym (node-of n 4 (eqb-true (kindOf n) 4 (sym (k .is h ly) ∙ not-false c e))) in
-              g t (attrAt (encode n) 1) (px .is h lx i) (py .is h ly z) ∙ sym (ap (λ (m : Node). subsumesNode t (asAttr m)) z)
+              g t (attrAt (encode n) 1) (px .is h lx i) (py .is h ly z) ∙ sym (ap (λ (m : Node). subsumesNode t (asAttr m)) z);
         }
 
     module _ {o : ℕ} (first : Open w a o) where
@@ -144,9 +144,9 @@ module _ {w : List ℕ} {x y : ℕ} {c : Bool} (k : Is w 4 y c) where
           opened : {r : Bool} → ((t u : Attr) → SetAt w a t → SetAt w b u → r ≡ both d (λ _. all (covers t u) (fieldKeys (t .fields)))) → Subsumes w x y r
           opened h =
               sets (λ t u m v.
-                h t u m v
-                ∙ ap (λ (z : Bool). both z (λ _. all (covers t u) (fieldKeys (t .fields)))) (dyn .is m v)
-                ∙ sym (ap₂ (λ (p q : Bool). chain p q (noDynOrSame (t .dyn) (u .dyn)) (all (covers t u) (fieldKeys (t .fields)))) (eq-eqb (t .isOpen) 1 (sym (first .is m) ∙ f)) (eq-eqb (u .isOpen) 1 (sym (second .is v) ∙ g))))
+              h t u m v
+              ∙ ap (λ (z : Bool). both z (λ _. all (covers t u) (fieldKeys (t .fields)))) (dyn .is m v)
+              ∙ sym (ap₂ (λ (p q : Bool). chain p q (noDynOrSame (t .dyn) (u .dyn)) (all (covers t u) (fieldKeys (t .fields)))) (eq-eqb (t .isOpen) 1 (sym (first .is m) ∙ f)) (eq-eqb (u .isOpen) 1 (sym (second .is v) ∙ g))))
 
           pub subsumes-dyn : not d ≡ true → Subsumes w x y false
           subsumes-dyn h = opened (λ t u m v. sym (ap (λ (z : Bool). both z (λ _. all (covers t u) (fieldKeys (t .fields)))) (not-true d h)))

@@ -1,13 +1,13 @@
 -- Pairs of a member and its negation. Assumes nothing.
 use mathlib.Core.Path.{_≡_, refl, sym, ap, ap₂, _∙_, subst}
 use mathlib.Core.Bool.{Bool, true, false, not, _||_}
-use Prim.Native.Nat.{ℕ, _≤_, _<_}
+use Prim.Native.Nat.{ℕ, _<_}
 use native.Mathlib.Omega.{arith}
 use mathlib.Core.List.{List, [], _∷_, _++_}
 use lib.ListN.{length, getD}
 use lib.Dec.{eqb}
 use borrow.Author.Tests.{eqb-true, eqb-false, eq-eqb, ne-eqb, not-true, not-false}
-use Rattle.cells.specs.Part.{part, if}
+use Rattle.cells.specs.Part.{if}
 use Rattle.rules.specs.Plain.{any, filter, contains, both}
 use Rattle.rules.specs.Types.{Node, TyVar, Primitive, ListOf, Lambda, AttrSet, Union, Intersection, Named, Neg, Bottom, Top, encode, kindOf, children, nodeAt, is}
 use Rattle.rules.specs.Members.{innerOf, negatedInners, isPositive, remove-tautological-pairs}
@@ -16,9 +16,10 @@ use Rattle.lang_ty.specs.declared.arena.Pass.{Pass}
 use Rattle.lang_ty.specs.Nodes.{Arena, Word, Is}
 use Rattle.lang_ty.proofs.Words.{word-of}
 use Rattle.members.specs.declared.lists.Members.{Members}
-use Rattle.members.specs.Lists.{Makes, Tests, Asks, Contains}
-use Rattle.simplify.specs.Unions.{negates, hasNegation, halved, Cancels}
-use Rattle.members.proofs.Gathered.{listOf, Sifting, sifting-done, Tried}
+use Rattle.members.specs.Lists.{Makes, Asks, Contains, Pairs, Beside, Sifts}
+use Rattle.simplify.specs.Asked.{negates, halved, sieve, AnyPair}
+use Rattle.simplify.specs.declared.beside.Sieve.the-variants.{Unpaired}
+use Rattle.members.proofs.Gathered.{taken-list}
 use Rattle.cells.specs.Placed.{Under}
 
 -- laws of the rules' lists
@@ -98,14 +99,15 @@ module _ {w : List ℕ} {m : ℕ} {c : Bool} (a : Is w 8 m c) where
   other : {q : Pass} {ns : List Node} → Arena w q ns → m < length ns → c ≡ false → innerOf (nodeAt ns m) ≡ []
   other {ns = ns} h lt e = no-inner (nodeAt ns m) (not-eqb (kindOf (nodeAt ns m)) 8 (sym e ∙ a .is h lt))
 
-pub negates-not : (x : ℕ) {w : List ℕ} {m : ℕ} {c : Bool} → Is w 8 m c → not c ≡ true → Asks (negates x) w m false
-negates-not x {m = m} {c} a e = record { is = λ {q} {ns} h lt. sym (ap (λ (l : List ℕ). contains l x) (other a h lt (not-true c e))) }
+-- `is_negation`
+pub negates-not : {w : List ℕ} {x m : ℕ} {c : Bool} → Is w 8 m c → not c ≡ true → Pairs negates w x m false
+negates-not {x = x} {c = c} a e = record { is = λ {q} {ns} h lx lt. sym (ap (λ (l : List ℕ). contains l x) (other a h lt (not-true c e))) }
 
-pub negates-is : (x : ℕ) {w : List ℕ} {m v : ℕ} {c r : Bool} → Is w 8 m c → not c ≡ false → Word w m 1 v → r ≡ eqb v x → Asks (negates x) w m r
-negates-is x {m = m} {v} {c} a e b g =
+pub negates-is : {w : List ℕ} {x m v : ℕ} {c r : Bool} → Is w 8 m c → not c ≡ false → Word w m 1 v → r ≡ eqb v x → Pairs negates w x m r
+negates-is {x = x} {v = v} {c = c} a e b g =
     record {
-      is = λ {q} {ns} h lt.
-          g ∙ swap-by v x (eqb v x) refl ∙ sym (once (eqb x v)) ∙ sym (ap (λ (n : Node). contains (innerOf n) x) (negation a h lt (not-false c e) b))
+      is = λ {q} {ns} h lx lt.
+          g ∙ swap-by v x (eqb v x) refl ∙ sym (once (eqb x v)) ∙ sym (ap (λ (n : Node). contains (innerOf n) x) (negation a h lt (not-false c e) b));
     }
 
 -- the ways of `is_cancelled`
@@ -121,41 +123,35 @@ module _ {w : List ℕ} {x : ℕ} {c : Bool} (a : Is w 8 x c) where
         ∙ sym (once (contains (filter (isPositive ns) xs) v))
         ∙ sym (ap (λ (k : Node). both (not (eqb (kindOf k) 8 || eqb (kindOf k) 0 || eqb (kindOf k) 9 || eqb (kindOf k) 10)) (λ _. contains (negatedInners ns xs) x) || any (contains (filter (isPositive ns) xs)) (innerOf k)) n)
 
-    pub cancel-none : {m : Members} → not d ≡ true → Cancels w m x false
+    pub cancel-none : {ms : List ℕ} {n : ℕ} → not d ≡ true → Beside halved w ms n x false
     cancel-none z = record { is = λ {q} {ns} {xs} h t lt. sym (ap (λ (k : Bool). both k (λ _. contains xs v)) (not-true d z)) ∙ held xs h lt }
 
-    pub cancel-held : {m : Members} {r : Bool} → not d ≡ false → Contains (m .at) (m .count) v r → Cancels w m x r
-    cancel-held {m} z g =
+    pub cancel-held : {ms : List ℕ} {n : ℕ} {r : Bool} → not d ≡ false → Contains ms n v r → Beside halved w ms n x r
+    cancel-held z g =
         record {
           is = λ {q} {ns} {xs} h t lt.
               g .is
-              ∙ ap (λ (l : List ℕ). contains l v) (ap (part (m .at) 0) (t .list .count) ∙ t .list .holds .is)
+              ∙ ap (λ (l : List ℕ). contains l v) (taken-list t)
               ∙ sym (ap (λ (k : Bool). both k (λ _. contains xs v)) (not-false d z))
-              ∙ held xs h lt
+              ∙ held xs h lt;
         }
 
   -- of another: whether it is positive and its negation a member
   module _ {d : Bool} (e : c ≡ false) (p : Asks isPositive w x d) where
-    alone : {q : Pass} {ns : List Node} (xs : List ℕ) → Arena w q ns → x < length ns → both d (λ _. hasNegation x ns xs) ≡ halved ns xs x
+    alone : {q : Pass} {ns : List Node} (xs : List ℕ) → Arena w q ns → x < length ns → both d (λ _. any (negates ns x) xs) ≡ halved ns xs x
     alone {q} {ns} xs h lt =
         ap₂ (λ (t u : Bool). both t (λ _. u)) (p .is h lt) (sym (inners-any ns xs (eqb x)))
         ∙ sym (or-false (both (isPositive ns x) (λ _. contains (negatedInners ns xs) x)))
         ∙ sym (ap (λ (l : List ℕ). both (isPositive ns x) (λ _. contains (negatedInners ns xs) x) || any (contains (filter (isPositive ns) xs)) l) (other a h lt e))
 
-    pub cancel-not : {m : Members} → not d ≡ true → Cancels w m x false
-    cancel-not z = record { is = λ {q} {ns} {xs} h t lt. sym (ap (λ (k : Bool). both k (λ _. hasNegation x ns xs)) (not-true d z)) ∙ alone xs h lt }
+    pub cancel-not : {ms : List ℕ} {n : ℕ} → not d ≡ true → Beside halved w ms n x false
+    cancel-not z = record { is = λ {q} {ns} {xs} h t lt. sym (ap (λ (k : Bool). both k (λ _. any (negates ns x) xs)) (not-true d z)) ∙ alone xs h lt }
 
-    pub cancel-pair : {m : Members} {r : Bool} → not d ≡ false → Tests (hasNegation x) w m r → Cancels w m x r
+    pub cancel-pair : {ms : List ℕ} {n : ℕ} {r : Bool} → not d ≡ false → AnyPair negates w ms 0 n x r → Beside halved w ms n x r
     cancel-pair z g =
-        record { is = λ {q} {ns} {xs} h t lt. g .is h t ∙ sym (ap (λ (k : Bool). both k (λ _. hasNegation x ns xs)) (not-false d z)) ∙ alone xs h lt }
+        record { is = λ {q} {ns} {xs} h t lt. g .is h t lt ∙ sym (ap (λ (k : Bool). both k (λ _. any (negates ns x) xs)) (not-false d z)) ∙ alone xs h lt }
 
 -- `remove_tautological_pairs` keeps the others
-abbrev pub uncancelled : List Node → List ℕ → ℕ → Bool
-uncancelled ns xs x = not (halved ns xs x)
-
-pub cancels-tried : {w ms : List ℕ} {n x : ℕ} {b c : Bool} → Cancels w (listOf n ms) x c → b ≡ not c → Tried uncancelled w ms n x b
-cancels-tried a e = record { is = λ h m lt. e ∙ ap not (a .is h m lt) }
-
-pub pairs-done : {w ms out : List ℕ} {n k i : ℕ} → Sifting uncancelled w ms n out k i → n ≤ i → Makes remove-tautological-pairs w (listOf n ms) (listOf k out)
+pub unpaired-all : {w : List ℕ} {m r : Members} → Sifts (sieve Unpaired) w (m .at) (m .count) m r → Makes remove-tautological-pairs w m r
 unfolding remove-tautological-pairs
-pairs-done c le = sifting-done c le
+unpaired-all g = record { is = λ h t. g .is h t t }

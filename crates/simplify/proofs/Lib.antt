@@ -1,3 +1,4 @@
+pub mod Asking
 pub mod Cancelled
 pub mod Absorbed
 pub mod Marked

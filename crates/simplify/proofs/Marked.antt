@@ -19,17 +19,17 @@ use Rattle.laws.proofs.Rows.{node-of}
 use Rattle.lang_ty.specs.declared.arena.Pass.{Pass}
 use Rattle.lang_ty.specs.Nodes.{Arena, Is}
 use Rattle.members.specs.declared.lists.Members.{Members}
-use Rattle.members.specs.Lists.{Taken, Makes, Gathered, only, KeepsIf}
+use Rattle.members.specs.Lists.{Taken, Makes, Gathered, only, KeepsIf, firstOf}
 use Rattle.simplify.specs.Unions.{Subsumes, Marked, MarksIf, Takes, MarksTaken, Leaves}
 use Rattle.laws.proofs.Filtering.{under-both}
-use Rattle.members.proofs.Gathered.{listOf, few-at, few-below, gathered-none, gathered-few}
+use Rattle.members.proofs.Gathered.{few-at, few-below, gathered-none, gathered-few}
 use Rattle.simplify.proofs.Cancelled.{any-both, once}
 use Rattle.simplify.proofs.Absorbed.{no-attr}
 use Rattle.cells.specs.Placed.{Under}
 use mathlib.Core.Option.{Option, none, some}
 
 -- no place is marked, and one more
-pub marked-none : Marked (replicate mostMembers 0) []
+marked-none : Marked (replicate mostMembers 0) []
 marked-none = record { room = length-replicate {A = ℕ} mostMembers 0; is = λ j lt. ap (λ (v : ℕ). eqb v 0) (getD-replicate mostMembers j 0 0 lt) }
 
 any-way : (b : Bool) → if b (λ _. true) (λ _. true) ≡ true
@@ -75,7 +75,7 @@ module _ {w ms gone : List ℕ} {i x j : ℕ} where
         record {
           is = λ {q} {ns} {t} {ps} h lx node lj m lt.
               sym (ap₂ (λ (u v : Bool). wanted u v (subsumesNode t (asAttr (nodeAt ns (cell ms j))))) (ne-eqb i j other)
-              (not-false (contains ps j) (sym (m .is j lt) ∙ ne-eqb (cell gone j) 0 (λ z. f (e ∙ z)))))
+              (not-false (contains ps j) (sym (m .is j lt) ∙ ne-eqb (cell gone j) 0 (λ z. f (e ∙ z)))));
         }
 
     pub takes-asks : {z : ℕ} {r : Bool} → y ≡ 0 → z ≡ cell ms j → Subsumes w x z r → Takes w ms i x j gone r
@@ -85,7 +85,7 @@ module _ {w ms gone : List ℕ} {i x j : ℕ} where
               a .is h lx (omega arith) node
               ∙ ap (λ (v : ℕ). subsumesNode t (asAttr (nodeAt ns v))) g
               ∙ sym (ap₂ (λ (u v : Bool). wanted u v (subsumesNode t (asAttr (nodeAt ns (cell ms j))))) (ne-eqb i j other)
-              (not-true (contains ps j) (sym (m .is j lt) ∙ eq-eqb (cell gone j) 0 (sym e ∙ f))))
+              (not-true (contains ps j) (sym (m .is j lt) ∙ eq-eqb (cell gone j) 0 (sym e ∙ f))));
         }
 
 -- the ways of `mark_taken`: the member is gone itself, is no set, or takes up others
@@ -102,7 +102,7 @@ taken-gone {gone = gone} {i = i} e f =
           subst (λ (l : List ℕ). Marked gone l)
           (sym (node-gone ns xs ps i (asAttr (nodeAt ns (getD xs i 0)))
           (not-false (contains ps i) (sym (m .is i (omega arith)) ∙ ne-eqb (cell gone i) 0 (λ z. f (e ∙ z))))))
-          m
+          m;
     }
 
 pub taken-none : {w ms gone : List ℕ} {n i x : ℕ} {b : Bool} → x ≡ cell ms i → Is w 4 x b → not b ≡ true → MarksTaken w ms n i gone gone
@@ -113,7 +113,7 @@ taken-none {gone = gone} {i = i} {x = x} {b = b} e k f =
           (sym (ap (takenByNode ns xs ps i)
           (ap (λ (y : ℕ). asAttr (nodeAt ns y)) (sym (few-at (t .list) e lt))
           ∙ no-attr (nodeAt ns x) (eqb-false (kindOf (nodeAt ns x)) 4 (sym (k .is h (few-below t e lt)) ∙ not-true b f)))))
-          m
+          m;
     }
 
 -- `mark_taken` at place j: the places marked so far, and the rules are as far
@@ -124,7 +124,7 @@ pub record Midmark (ns : List Node) (i : ℕ) (t : Attr) (xs ps gone : List ℕ)
 
 pub record Marking (w ms : List ℕ) (n i x : ℕ) (gone₀ gone : List ℕ) (j : ℕ) : Type 0 where
   pub few : j ≤ n
-  pub is : {q : Pass} {ns : List Node} {xs ps : List ℕ} {t : Attr} → Arena w q ns → Taken (listOf n ms) xs (length ns) → x < length ns → nodeAt ns x ≡ AttrSet t
+  pub is : {q : Pass} {ns : List Node} {xs ps : List ℕ} {t : Attr} → Arena w q ns → Taken (firstOf n ms) xs (length ns) → x < length ns → nodeAt ns x ≡ AttrSet t
       → Marked gone₀ ps → Midmark ns i t xs ps gone j
 
 module _ {w ms gone₀ : List ℕ} {n i x : ℕ} where
@@ -151,7 +151,7 @@ module _ {w ms gone₀ : List ℕ} {n i x : ℕ} where
                   (sym (a .is h lx node (few-below m refl lt) (mid .marked) (omega arith)
                   ∙ ap (λ (y : ℕ). wanted (eqb i j) (contains now j) (subsumesNode t (asAttr (nodeAt ns y)))) (few-at (m .list) refl lt)))
                   (sym (add-one j));
-            }
+            };
       }
 
   pub marking-done : {gone : List ℕ} {j y : ℕ} {b : Bool} → y ≡ cell gone₀ i → y ≡ 0 → x ≡ cell ms i → Is w 4 x b → not b ≡ false → Marking w ms n i x gone₀ gone j → n ≤ j
@@ -172,7 +172,7 @@ module _ {w ms gone₀ : List ℕ} {n i x : ℕ} where
             ∙ ap (λ (u : Bool). if u (λ _. ps) (λ _. takenBy ns i t ps 0 xs)) (not-true (contains ps i) (sym (o .is i (omega arith)) ∙ eq-eqb (cell gone₀ i) 0 (sym e ∙ f)))
             ∙ mid .is
             ∙ ap (takenBy ns i t (mid .now) j) (drop-of-length-le xs {i = j} (omega arith))))
-            (mid .marked)
+            (mid .marked);
       }
 
 -- `left` at member i: what is left so far, and the rules are as far
@@ -185,7 +185,7 @@ pub record Midleft (xs ps : List ℕ) (top : ℕ) (out : List ℕ) (k i : ℕ) :
 
 pub record Leaving (gone ms : List ℕ) (n : ℕ) (out : List ℕ) (k i : ℕ) : Type 0 where
   pub few : i ≤ n
-  pub is : {xs ps : List ℕ} {top : ℕ} → Taken (listOf n ms) xs top → Marked gone ps → Midleft xs ps top out k i
+  pub is : {xs ps : List ℕ} {top : ℕ} → Taken (firstOf n ms) xs top → Marked gone ps → Midleft xs ps top out k i
 
 only-left : (b : Bool) (x : ℕ) (l : List ℕ) → if b (λ _. l) (λ _. x ∷ l) ≡ only (not b) x ++ l
 only-left true x l = refl
@@ -231,18 +231,18 @@ module _ {gone ms : List ℕ} {n : ℕ} where
                   ∙ ap₂ (λ (u : Bool) (w : ℕ). only u w ++ rest) (sym v) (sym (few-at (t .list) e lt)))
                   ∙ sym (append-assoc (mid .got) (only b x) rest)
                   ∙ ap (λ (j : ℕ). (mid .got ++ only b x) ++ left ps j (drop j xs)) (sym (add-one i));
-            }
+            };
       }
 
-  pub leaving-done : {out : List ℕ} {k i : ℕ} → Leaving gone ms n out k i → n ≤ i → Leaves (listOf n ms) gone (listOf k out)
+  pub leaving-done : {out : List ℕ} {k i : ℕ} → Leaving gone ms n out k i → n ≤ i → Leaves (firstOf n ms) gone (firstOf k out)
   leaving-done {out} {k} {i} c le =
       record {
         is = λ {xs} {ps} {k = top} t m.
             let mid = c .is t m in
             let e : left ps 0 xs ≡ mid .got =
-                  mid .is ∙ ap (λ (l : List ℕ). mid .got ++ left ps i l) (drop-of-length-le xs {i = i} (omega (arith, t .list .count))) ∙ append-nil (mid .got) in
-            subst (λ (l : List ℕ). Taken (listOf k out) l top) (sym e)
-            (record { list = gathered-few (mid .gathered) (omega (arith, mid .few, c .few, t .list .count, t .list .few)); below = mid .below })
+            mid .is ∙ ap (λ (l : List ℕ). mid .got ++ left ps i l) (drop-of-length-le xs {i = i} (omega (arith, t .list .count))) ∙ append-nil (mid .got) in
+            subst (λ (l : List ℕ). Taken (firstOf k out) l top) (sym e)
+            (record { list = gathered-few (mid .gathered) (omega (arith, mid .few, c .few, t .list .count, t .list .few)); below = mid .below });
       }
 
 -- `absorb_subsumed_union_members` at place i
@@ -253,7 +253,7 @@ pub record Midway (ns : List Node) (xs gone : List ℕ) (i : ℕ) : Type 0 where
 
 pub record Absorbing (w ms : List ℕ) (n : ℕ) (gone : List ℕ) (i : ℕ) : Type 0 where
   pub few : i ≤ n
-  pub is : {q : Pass} {ns : List Node} {xs : List ℕ} → Arena w q ns → Taken (listOf n ms) xs (length ns) → Midway ns xs gone i
+  pub is : {q : Pass} {ns : List Node} {xs : List ℕ} → Arena w q ns → Taken (firstOf n ms) xs (length ns) → Midway ns xs gone i
 
 module _ {w ms : List ℕ} {n : ℕ} where
   pub absorbing-start : Absorbing w ms n (replicate mostMembers 0) 0
@@ -273,10 +273,10 @@ module _ {w ms : List ℕ} {n : ℕ} where
                   mid .is
                   ∙ ap (takenUp ns xs (mid .now) i) (drop-cons xs i 0 (omega (arith, t .list .count)))
                   ∙ ap (λ (j : ℕ). takenUp ns xs more j (drop j xs)) (sym (add-one i));
-            }
+            };
       }
 
-  pub absorbing-done : {gone : List ℕ} {i : ℕ} {r : Members} → Absorbing w ms n gone i → n ≤ i → Leaves (listOf n ms) gone r → Makes absorb-subsumed-union-members w (listOf n ms) r
+  pub absorbing-done : {gone : List ℕ} {i : ℕ} {r : Members} → Absorbing w ms n gone i → n ≤ i → Leaves (firstOf n ms) gone r → Makes absorb-subsumed-union-members w (firstOf n ms) r
   unfolding absorb-subsumed-union-members
   absorbing-done {gone} {i} {r} c le g =
       record {
@@ -284,5 +284,5 @@ module _ {w ms : List ℕ} {n : ℕ} where
             let mid = c .is h t in
             subst (λ (l : List ℕ). Taken r (left l 0 xs) (length ns))
             (sym (mid .is ∙ ap (takenUp ns xs (mid .now) i) (drop-of-length-le xs {i = i} (omega (arith, t .list .count)))))
-            (g .is t (mid .marked))
+            (g .is t (mid .marked));
       }

@@ -1,10 +1,10 @@
 -- Redundant negations: the tests, the search through the members, and what is kept. Assumes nothing.
 use mathlib.Core.Path.{_≡_, refl, sym, ap, _∙_, subst}
 use mathlib.Core.Bool.{Bool, true, false, not, _||_}
-use Prim.Native.Nat.{ℕ, _+_, _≤_, _<_}
+use Prim.Native.Nat.{ℕ, _<_}
 use native.Mathlib.Omega.{arith}
 use mathlib.Core.List.{List, [], _∷_}
-use lib.ListN.{length, getD, drop}
+use lib.ListN.{length}
 use borrow.Author.Tests.{eqb-true, eqb-false, eq-eqb, ne-eqb, not-true, not-false}
 use Rattle.cells.specs.Part.{cell, if}
 use Rattle.rules.specs.Plain.{any, all, filter, empty, both}
@@ -16,26 +16,24 @@ use Rattle.lang_ty.specs.Nodes.{Arena, Word, Is}
 use Rattle.lang_ty.specs.Shapes.{Disjoint, Subtype}
 use Rattle.lang_ty.proofs.Words.{word-of}
 use Rattle.members.specs.declared.lists.Members.{Members}
-use Rattle.members.specs.Lists.{Taken, Makes, Tests, Asks, firstOf, Pairs}
-use Rattle.simplify.specs.Intersections.{Probes, Beside, anyConcrete, overlap, redundant}
-use Rattle.laws.proofs.Filtering.{any-here, any-more, any-done}
-use Rattle.members.proofs.Gathered.{few-at, few-below, Tried}
+use Rattle.members.specs.Lists.{Taken, Makes, Tests, Asks, Pairs, Beside, Sifts}
+use Rattle.simplify.specs.Asked.{overlap, redundant, sieve, anyMember, AnyPair}
+use Rattle.simplify.specs.declared.beside.Sieve.the-variants.{Needed}
+use Rattle.simplify.specs.declared.beside.MemberTest.the-variants.{Concrete}
 use Rattle.simplify.proofs.Cancelled.{no-inner, once}
+use Rattle.members.proofs.Gathered.{all-not}
 use Rattle.members.proofs.Negated.{neg-at}
 use Rattle.cells.specs.Placed.{Under}
 
--- all of those that c says, and none that c says and p does not
-all-turn : (p c : ℕ → Bool) (x : ℕ) (xs : List ℕ) (r b d : Bool) → p x ≡ d → all p (filter c xs) ≡ not r
-    → all p (if b (λ _. x ∷ filter c xs) (λ _. filter c xs)) ≡ not (if (both b (λ _. not (p x))) (λ _. true) (λ _. r))
-all-turn p c x xs r false d e h = h
-all-turn p c x xs r true true e h =
-    ap (λ (t : Bool). if t (λ _. all p (filter c xs)) (λ _. false)) e ∙ h ∙ sym (ap (λ (t : Bool). not (if (not t) (λ _. true) (λ _. r))) e)
-all-turn p c x xs r true false e h =
-    ap (λ (t : Bool). if t (λ _. all p (filter c xs)) (λ _. false)) e ∙ sym (ap (λ (t : Bool). not (if (not t) (λ _. true) (λ _. r))) e)
+-- of those that p keeps
+sift-turn : (p q : ℕ → Bool) (x : ℕ) (xs : List ℕ) (b : Bool) → any q (filter p xs) ≡ any (λ (y : ℕ). both (p y) (λ _. q y)) xs
+    → any q (if b (λ _. x ∷ filter p xs) (λ _. filter p xs)) ≡ if (both b (λ _. q x)) (λ _. true) (λ _. any (λ (y : ℕ). both (p y) (λ _. q y)) xs)
+sift-turn p q x xs true h = ap (λ (t : Bool). if (q x) (λ _. true) (λ _. t)) h
+sift-turn p q x xs false h = h
 
-all-any : (p c : ℕ → Bool) (xs : List ℕ) → all p (filter c xs) ≡ not (any (λ (y : ℕ). both (c y) (λ _. not (p y))) xs)
-all-any p c [] = refl
-all-any p c (x ∷ xs) = all-turn p c x xs (any (λ (y : ℕ). both (c y) (λ _. not (p y))) xs) (c x) (p x) refl (all-any p c xs)
+pub any-sift : (p q : ℕ → Bool) (xs : List ℕ) → any q (filter p xs) ≡ any (λ (y : ℕ). both (p y) (λ _. q y)) xs
+any-sift p q [] = refl
+any-sift p q (x ∷ xs) = sift-turn p q x xs (p x) (any-sift p q xs)
 
 empty-turn : (c : ℕ → Bool) (x : ℕ) (xs : List ℕ) (b : Bool) → empty (filter c xs) ≡ not (any c xs)
     → empty (if b (λ _. x ∷ filter c xs) (λ _. filter c xs)) ≡ not (if b (λ _. true) (λ _. any c xs))
@@ -52,7 +50,7 @@ module _ {w : List ℕ} (functor : ℕ) {x y : ℕ} {c : Bool} (known : Asks isC
   overlaps-not e =
       record {
         is = λ {q} {ns} h lx ly.
-            sym (ap (λ (b : Bool). both b (λ _. not (are-output-types-disjoint functor ns y x))) (sym (known .is h ly) ∙ not-true c e))
+            sym (ap (λ (b : Bool). both b (λ _. not (are-output-types-disjoint functor ns y x))) (sym (known .is h ly) ∙ not-true c e));
       }
 
   pub overlaps-so : {d r : Bool} → not c ≡ false → Disjoint w functor y x d → r ≡ not d → Pairs (overlap functor) w x y r
@@ -60,30 +58,8 @@ module _ {w : List ℕ} (functor : ℕ) {x y : ℕ} {c : Bool} (known : Asks isC
       record {
         is = λ {q} {ns} h lx ly.
             f ∙ ap not (apart .is h ly lx)
-            ∙ sym (ap (λ (b : Bool). both b (λ _. not (are-output-types-disjoint functor ns y x))) (sym (known .is h ly) ∙ not-false c e))
+            ∙ sym (ap (λ (b : Bool). both b (λ _. not (are-output-types-disjoint functor ns y x))) (sym (known .is h ly) ∙ not-false c e));
       }
-
--- a search, from a place on, for a member of which it holds beside x, at member i
-pub record Probing (f : List Node → ℕ → ℕ → Bool) (w ms : List ℕ) (from n x i : ℕ) : Type 0 where
-  pub is : {q : Pass} {ns : List Node} {xs : List ℕ} → Arena w q ns → Taken (firstOf n ms) xs (length ns) → x < length ns
-      → any (f ns x) (drop i xs) ≡ any (f ns x) (drop from xs)
-
-module _ {f : List Node → ℕ → ℕ → Bool} {w ms : List ℕ} {from n x : ℕ} where
-  pub probing-start : Probing f w ms from n x from
-  probing-start = record { is = λ h t l. refl }
-
-  module _ {i y : ℕ} {b : Bool} (c : Probing f w ms from n x i) (lt : i < n) (e : y ≡ cell ms i) (t : Pairs f w x y b) where
-    says : {q : Pass} {ns : List Node} {xs : List ℕ} → Arena w q ns → Taken (firstOf n ms) xs (length ns) → x < length ns → b ≡ f ns x (getD xs i 0)
-    says {ns = ns} {xs = xs} h m l = t .is h l (few-below m e lt) ∙ ap (f ns x) (few-at (m .list) e lt)
-
-    pub probing-here : b ≡ true → Probes f w ms from n x true
-    probing-here z = record { is = λ {q} {ns} {xs} h m l. any-here (f ns x) xs i (c .is h m l) (omega (arith, m .list .count)) (sym z ∙ says h m l) }
-
-    pub probing-more : b ≡ false → Probing f w ms from n x (i + 1)
-    probing-more z = record { is = λ {q} {ns} {xs} h m l. any-more (f ns x) xs i (c .is h m l) (omega (arith, m .list .count)) (sym z ∙ says h m l) }
-
-  pub probing-done : {i : ℕ} → Probing f w ms from n x i → n ≤ i → Probes f w ms from n x false
-  probing-done {i} c le = record { is = λ {q} {ns} {xs} h m l. any-done (f ns x) xs i (c .is h m l) (omega (arith, m .list .count)) }
 
 -- `is_redundant`
 module _ {w ms : List ℕ} (functor : ℕ) {n x : ℕ} {b : Bool} (neg : Is w 8 x b) where
@@ -92,26 +68,24 @@ module _ {w ms : List ℕ} (functor : ℕ) {n x : ℕ} {b : Bool} (neg : Is w 8 
       record {
         is = λ {q} {ns} {xs} h m lt.
             sym (ap (any (λ (a : ℕ). all (λ (c : ℕ). are-output-types-disjoint functor ns c a) (filter (isConcrete ns) xs)))
-            (no-inner (nodeAt ns x) (eqb-false (kindOf (nodeAt ns x)) 8 (sym (neg .is h lt) ∙ not-true b e))))
+            (no-inner (nodeAt ns x) (eqb-false (kindOf (nodeAt ns x)) 8 (sym (neg .is h lt) ∙ not-true b e))));
       }
 
-  pub redundant-neg : {a : ℕ} {d r : Bool} → not b ≡ false → Word w x 1 a → Probes (overlap functor) w ms 0 n a d → r ≡ not d → Beside (redundant functor) w ms n x r
+  pub redundant-neg : {a : ℕ} {d r : Bool} → not b ≡ false → Word w x 1 a → AnyPair (overlap functor) w ms 0 n a d → r ≡ not d → Beside (redundant functor) w ms n x r
   redundant-neg {a} {d} {r} e inner over f =
       record {
         is = λ {q} {ns} {xs} h m lt.
             let node = neg-at h lt (eqb-true (kindOf (nodeAt ns x)) 8 (sym (neg .is h lt) ∙ not-false b e)) inner in
             let low : a < x = subst (λ (m : Node). Under x (children m)) (sym node) (h .below x lt) .0 in
             f ∙ ap not (over .is h m (omega arith))
-            ∙ sym (all-any (λ (c : ℕ). are-output-types-disjoint functor ns c a) (isConcrete ns) xs)
+            ∙ sym (all-not (λ (c : ℕ). are-output-types-disjoint functor ns c a) (filter (isConcrete ns) xs)
+            ∙ ap not (any-sift (isConcrete ns) (λ (c : ℕ). not (are-output-types-disjoint functor ns c a)) xs))
             ∙ sym (once (all (λ (c : ℕ). are-output-types-disjoint functor ns c a) (filter (isConcrete ns) xs)))
-            ∙ ap (λ (m : Node). any (λ (a : ℕ). all (λ (c : ℕ). are-output-types-disjoint functor ns c a) (filter (isConcrete ns) xs)) (innerOf m)) node
+            ∙ ap (λ (m : Node). any (λ (a : ℕ). all (λ (c : ℕ). are-output-types-disjoint functor ns c a) (filter (isConcrete ns) xs)) (innerOf m)) node;
       }
 
-pub tried-not : {f : List Node → List ℕ → ℕ → Bool} {w ms : List ℕ} {n x : ℕ} {d : Bool} → Beside f w ms n x d → Tried (λ ns xs y. not (f ns xs y)) w ms n x (not d)
-tried-not t = record { is = λ h m lt. ap not (t .is h m lt) }
-
 -- `remove_redundant_negations`
-module _ {w : List ℕ} {m : Members} (functor : ℕ) {b : Bool} (some : Tests anyConcrete w m b) where
+module _ {w : List ℕ} {m : Members} (functor : ℕ) {b : Bool} (some : Tests (anyMember Concrete) w m b) where
   pub removes-none : not b ≡ true → Makes (remove-redundant-negations functor) w m m
   unfolding remove-redundant-negations
   removes-none e =
@@ -120,10 +94,10 @@ module _ {w : List ℕ} {m : Members} (functor : ℕ) {b : Bool} (some : Tests a
             subst (λ (l : List ℕ). Taken m l (length ns))
             (sym (ap (λ (v : Bool). if v (λ _. xs) (λ _. filter (λ (y : ℕ). not (redundant functor ns xs y)) xs))
             (empty-any (isConcrete ns) xs ∙ ap not (sym (some .is h t)) ∙ e)))
-            t
+            t;
       }
 
-  pub removes-some : {r : Members} → not b ≡ false → Makes (λ ns xs. filter (λ (y : ℕ). not (redundant functor ns xs y)) xs) w m r → Makes (remove-redundant-negations functor) w m r
+  pub removes-some : {r : Members} → not b ≡ false → Sifts (sieve (Needed functor)) w (m .at) (m .count) m r → Makes (remove-redundant-negations functor) w m r
   unfolding remove-redundant-negations
   removes-some {r} e g =
       record {
@@ -131,7 +105,7 @@ module _ {w : List ℕ} {m : Members} (functor : ℕ) {b : Bool} (some : Tests a
             subst (λ (l : List ℕ). Taken r l (length ns))
             (sym (ap (λ (v : Bool). if v (λ _. xs) (λ _. filter (λ (y : ℕ). not (redundant functor ns xs y)) xs))
             (empty-any (isConcrete ns) xs ∙ ap not (sym (some .is h t)) ∙ e)))
-            (g .is h t)
+            (g .is h t t);
       }
 
 -- `is_output_subtype_or_equal`: only a primitive lies below, and below a primitive
@@ -178,7 +152,7 @@ module _ {w : List ℕ} {a b : ℕ} where
     by-primitives g =
         record {
           is = λ {q} {ns} h la lb.
-              g q ns h la lb ∙ sym (ap (λ (t : Bool). t || primitivesBelow (shapeOf (nodeAt ns a)) (shapeOf (nodeAt ns b))) (ne-eqb a b differ))
+              g q ns h la lb ∙ sym (ap (λ (t : Bool). t || primitivesBelow (shapeOf (nodeAt ns a)) (shapeOf (nodeAt ns b))) (ne-eqb a b differ));
         }
 
     pub below-not : not i ≡ true → Pairs is-output-subtype-or-equal w a b false

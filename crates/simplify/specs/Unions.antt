@@ -7,29 +7,15 @@ use lib.ListN.{length, getD}
 use lib.Dec.{eqb}
 use Rattle.cells.specs.Part.{cell, if}
 use Rattle.rules.specs.Ceilings.{mostMembers}
-use Rattle.rules.specs.Plain.{any, all, filter, contains, both}
+use Rattle.rules.specs.Plain.{all, contains, both}
 use Rattle.rules.specs.Table.{Attr, fieldKeys}
 use Rattle.rules.specs.Types.{Node, AttrSet, nodeAt, asAttr}
-use Rattle.rules.specs.Members.{innerOf, negatedInners, isPositive, cancelled, noDynOrSame, subsumesNode, takenByNode, left}
+use Rattle.rules.specs.Members.{noDynOrSame, subsumesNode, takenByNode, left}
 use Rattle.lang_ty.specs.declared.arena.Pass.{Pass}
 use Rattle.lang_ty.specs.Nodes.{Arena}
 use Rattle.lang_ty.specs.Sets.{SetAt}
 use Rattle.members.specs.declared.lists.Members.{Members}
-use Rattle.members.specs.Lists.{Taken}
-
--- m is the negation of x
-abbrev pub negates : ℕ → List Node → ℕ → Bool
-negates x ns m = contains (innerOf (nodeAt ns m)) x
-
-abbrev pub hasNegation : ℕ → List Node → List ℕ → Bool
-hasNegation x ns xs = any (negates x ns) xs
-
--- x is one half of a pair among xs
-abbrev pub halved : List Node → List ℕ → ℕ → Bool
-halved ns xs x = cancelled ns (filter (isPositive ns) xs) (negatedInners ns xs) x
-
-pub record Cancels (w : List ℕ) (m : Members) (x : ℕ) (r : Bool) : Type 0 where
-  pub is : {q : Pass} {ns : List Node} {xs : List ℕ} → Arena w q ns → Taken m xs (length ns) → x < length ns → r ≡ halved ns xs x
+use Rattle.members.specs.Lists.{Taken, firstOf}
 
 -- field k of the set t is not required, or is one of u's too
 abbrev pub covers : Attr → Attr → ℕ → Bool
@@ -65,7 +51,7 @@ pub record Takes (w ms : List ℕ) (i x j : ℕ) (gone : List ℕ) (r : Bool) : 
 
 -- the places that the member at place i takes up are marked too
 pub record MarksTaken (w ms : List ℕ) (n i : ℕ) (gone gone′ : List ℕ) : Type 0 where
-  pub is : {q : Pass} {ns : List Node} {xs ps : List ℕ} → Arena w q ns → Taken (record { count = n; at = ms }) xs (length ns) → i < n → Marked gone ps
+  pub is : {q : Pass} {ns : List Node} {xs ps : List ℕ} → Arena w q ns → Taken (firstOf n ms) xs (length ns) → i < n → Marked gone ps
       → Marked gone′ (takenByNode ns xs ps i (asAttr (nodeAt ns (getD xs i 0))))
 
 -- the members whose places are not marked

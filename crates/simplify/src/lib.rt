@@ -1,3 +1,5 @@
 // The members of unions and intersections simplified, each function of collect.rs under its name.
-pub mod unions;
+pub mod beside;
 pub mod intersections;
+pub mod pairs;
+pub mod unions;

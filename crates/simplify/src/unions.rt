@@ -1,78 +1,24 @@
 // What is done to the members of a union: cancelling pairs, absorbing sets.
+use crate::beside::Sieve;
+use crate::beside::sift;
 use cells::at;
 use cells::set;
-use lang_ty::arena::OutputTy;
 use lang_ty::arena;
+use lang_ty::arena::OutputTy;
 use lang_ty::attrset;
 use lang_ty::disjoint;
 use members::lists::Members;
-use members::lists::contains;
-use members::lists::is_positive;
 use members::lists::keep_if;
 ghost use Rattle.rules.specs.Members.{remove-tautological-pairs, absorb-subsumed-union-members};
-ghost use Rattle.members.specs.Lists.{Makes, Tests, Asks};
-ghost use Rattle.simplify.specs.Unions.{negates, hasNegation, Cancels, Covered, FieldsCover, DynCovers, Subsumes, MarksIf, Takes, MarksTaken, Leaves};
-
-// Whether node m is the Neg of x.
-fn is_negation(arena: &[u32], m: u32, x: u32) -> bool
-    ensures { λ r. ⌜ Asks (negates x) (now (arena .entry)) m r ⌝ }
-{
-    if !arena::is(arena, OutputTy::NEG, m) {
-        return false;
-    }
-    arena::word(arena, m, 1) == x
-}
-
-// Whether the Neg of x is a member.
-fn has_negation(arena: &[u32], m: Members, x: u32) -> bool
-    ensures { λ r. ⌜ Tests (hasNegation x) (now (arena .entry)) m r ⌝ }
-{
-    let ms = m.at;
-    let n = m.count;
-    let mut i = 0;
-    while i < n {
-        if is_negation(arena, at(&ms, i), x) {
-            return true;
-        }
-        i += 1;
-    }
-    false
-}
-
-// x is one half of a pair: a positive whose negation is a member, or the negation of a positive member.
-fn is_cancelled(arena: &[u32], m: Members, x: u32) -> bool
-    ensures { λ r. ⌜ Cancels (now (arena .entry)) m x r ⌝ }
-{
-    let ms = m.at;
-    let n = m.count;
-    if arena::is(arena, OutputTy::NEG, x) {
-        let inner = arena::word(arena, x, 1);
-        if !is_positive(arena, inner) {
-            return false;
-        }
-        return contains(&ms, n, inner);
-    }
-    if !is_positive(arena, x) {
-        return false;
-    }
-    has_negation(arena, m, x)
-}
+ghost use Rattle.members.specs.Lists.{Makes};
+ghost use Rattle.simplify.specs.Unions.{Covered, FieldsCover, DynCovers, Subsumes, MarksIf, Takes, MarksTaken, Leaves};
 
 // remove_tautological_pairs
 pub fn remove_tautological_pairs(arena: &[u32], m: Members) -> Members
     ensures { λ r. ⌜ Makes remove-tautological-pairs (now (arena .entry)) m r ⌝ }
 {
     let ms = m.at;
-    let n = m.count;
-    let mut out = [0u32; 128];
-    let mut k = 0;
-    let mut i = 0;
-    while i < n {
-        let x = at(&ms, i);
-        k = keep_if(&mut out, k, x, !is_cancelled(arena, m, x));
-        i += 1;
-    }
-    Members { count: k, at: out }
+    sift(arena, Sieve::Unpaired, &ms, m.count, m)
 }
 
 // The field k of the set at a is not required, or is one of the set at b.

@@ -39,7 +39,7 @@ module _ {w w′ : List ℕ} {b : ℕ} (e : Alike b w w′) where
   rest-alike (union x y) le r = (one-alike 1 le (r .0), one-alike 2 le (r .1))
   rest-alike frozen le r = tt
 
-  pub entry-alike : {a : ℕ} (en : Entry) → b ≤ a → EntryAt w a en → EntryAt w′ a en
+  entry-alike : {a : ℕ} (en : Entry) → b ≤ a → EntryAt w a en → EntryAt w′ a en
   entry-alike {a} en le h = record { kind = e .is a le ∙ h .kind; fits = h .fits; rest = rest-alike en le (h .rest) }
 
 -- a table whose facts alone differ is read alike

@@ -1,6 +1,6 @@
 -- Reading entries: rows, kinds, bounds. Assumes nothing.
 use mathlib.Core.Path.{_≡_, refl, sym, ap, ap₂, _∙_, subst}
-use mathlib.Core.Bool.{Bool, true, false, _||_}
+use mathlib.Core.Bool.{Bool, true, false, _||_, or-false}
 use Prim.Native.Nat.{ℕ, suc, _+_, _≤_, _<_}
 use native.Mathlib.Omega.{arith}
 use native.Mathlib.Numerals.{add-one}
@@ -27,6 +27,7 @@ use Rattle.storage.specs.Passes.{ListAt, EntryAt, Reads}
 use Rattle.storage.specs.Entries.{Row, KindAt, IsVar, VariableIs, ReadAs, entryOfTwo, EntryOfTwo, EntryRead, IsAtom, Uppers, NamedIs, FindsNamed, NamedBound, Turned}
 use Rattle.laws.proofs.Filtering.{under-at}
 use Rattle.cells.specs.Placed.{Under}
+use Rattle.cells.proofs.Choices.{if-self}
 
 pub row-is : {table : List ℕ} {c : Canon} {id p r : ℕ} → p ≡ c .base + id → r ≡ cell table p → Row table c id r
 row-is {table} e f = record { is = f ∙ ap (cell table) e }
@@ -162,14 +163,6 @@ not-negated (inter x y) h = refl
 not-negated (union x y) h = refl
 not-negated frozen h = refl
 
-or-false : (b : Bool) → b || false ≡ b
-or-false true = refl
-or-false false = refl
-
-if-itself : (b : Bool) → if b (λ _. true) (λ _. false) ≡ b
-if-itself true = refl
-if-itself false = refl
-
 module _ {table : List ℕ} {c : Canon} {id a k : ℕ} (row : Row table c id a) (kind : k ≡ cell table a) where
   pub atom-neg : {p x j : ℕ} {r : Bool} → k ≡ 8 → p ≡ a + 1 → x ≡ cell table p → KindAt table c x j → r ≡ eqb j 3 → IsAtom table c id r
   atom-neg {x = x} e at one inner f =
@@ -177,7 +170,7 @@ module _ {table : List ℕ} {c : Canon} {id a k : ℕ} (row : Row table c id a) 
         is = λ {t} h lt.
             let z : t id ≡ neg x = read-neg row kind at one e .is h lt .is in
             let below : x < c .count = subst (λ (en : rules.Entry). Under (c .count) (kids en)) z (h .known id lt) .0 in
-            f ∙ ap (λ (i : ℕ). eqb i 3) (kind-of inner h below) ∙ sym (ap (isAtom t) z ∙ if-itself (isPrim (t x)));
+            f ∙ ap (λ (i : ℕ). eqb i 3) (kind-of inner h below) ∙ sym (ap (isAtom t) z ∙ if-self (isPrim (t x)));
       }
 
   pub atom-other : {r : Bool} → (k ≡ 8 → ⊥) → r ≡ eqb k 3 → IsAtom table c id r

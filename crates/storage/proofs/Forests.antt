@@ -17,6 +17,7 @@ use Rattle.cells.proofs.Holding.{holds-from}
 use Rattle.rules.specs.Plain.{flag, both}
 use Rattle.rules.specs.Table.{Pair, joinClasses, joinPair, joinPairs, repIn, upward}
 use Rattle.laws.proofs.Joining.{upward-length}
+use Rattle.laws.proofs.Containing.{flag-few}
 use Rattle.storage.specs.Equivs.{pairAt, Rep, Inside, Stays, roots, Forest, Finds, Unites, Alone, Settles, pairsIn, Behind, UnitesAll, Represents}
 
 -- `rep`
@@ -43,17 +44,13 @@ set-by l j v P lt here i other = turn (eqb i j) refl where
   turn false e = subst (P i) (sym (getD-set-other l j i v 0 (eqb-false i j e))) (other (eqb-false i j e))
 
 -- how many ids are their own representatives
-flag-most : (b : Bool) → flag b ≤ 1
-flag-most true = omega arith
-flag-most false = omega arith
-
 flag-le : (b c : Bool) → (b ≡ true → c ≡ true) → flag b ≤ flag c
 flag-le true c h = let e : flag c ≡ 1 = ap flag (h refl) in omega arith
 flag-le false c h = omega arith
 
 roots-most : (f : ℕ → ℕ) (n : ℕ) → roots f n ≤ n
 roots-most f zero = omega arith
-roots-most f (suc n) = omega (arith, flag-most (eqb (f n) n), roots-most f n)
+roots-most f (suc n) = omega (arith, flag-few (eqb (f n) n), roots-most f n)
 
 module _ (f g : ℕ → ℕ) where
   root-le : (n : ℕ) → (g n ≡ n → f n ≡ n) → flag (eqb (g n) n) ≤ flag (eqb (f n) n)
@@ -68,9 +65,9 @@ module _ (f g : ℕ → ℕ) where
   roots-less (suc n) k h lt e ne =
       ⊎-elim
       (λ (z : k ≡ n).
-          let a : flag (eqb (f n) n) ≡ 1 = ap flag (eq-eqb (f n) n (ap f (sym z) ∙ e ∙ z)) in
-          let b : flag (eqb (g n) n) ≡ 0 = ap flag (ne-eqb (g n) n (λ y. ne (ap g z ∙ y ∙ sym z))) in
-          omega (arith, roots-le n (λ i l. h i (omega arith))))
+      let a : flag (eqb (f n) n) ≡ 1 = ap flag (eq-eqb (f n) n (ap f (sym z) ∙ e ∙ z)) in
+      let b : flag (eqb (g n) n) ≡ 0 = ap flag (ne-eqb (g n) n (λ y. ne (ap g z ∙ y ∙ sym z))) in
+      omega (arith, roots-le n (λ i l. h i (omega arith))))
       (λ (z : k < n). omega (arith, root-le n (h n (omega arith)), roots-less n k (λ i l. h i (omega arith)) z e ne))
       (eq-or-lt-of-le (omega arith))
 
@@ -78,10 +75,10 @@ roots-some : (f : ℕ → ℕ) (n k : ℕ) → k < n → f k ≡ k → 0 < roots
 roots-some f n k lt e = omega (arith, roots-less f (λ (i : ℕ). suc i) n k (λ i l z. absurd (omega arith)) lt e (λ z. omega arith))
 
 -- the parents of ids stay ids
-pub stays-none : {parent : List ℕ} {count : ℕ} → Inside parent count → Stays parent count parent
+stays-none : {parent : List ℕ} {count : ℕ} → Inside parent count → Stays parent count parent
 stays-none h = record { inside = h; kept = λ k le. refl }
 
-pub stays-both : {a b c : List ℕ} {count : ℕ} → Stays a count b → Stays b count c → Stays a count c
+stays-both : {a b c : List ℕ} {count : ℕ} → Stays a count b → Stays b count c → Stays a count c
 stays-both h k = record { inside = k .inside; kept = λ i le. k .kept i le ∙ h .kept i le }
 
 stays-set : {parent parent′ : List ℕ} {count j v : ℕ} → Inside parent count → j < count → v < count → parent′ ≡ set parent j v → Stays parent count parent′
@@ -299,15 +296,15 @@ module _ (ra rb : ℕ) where
             depth = farther;
             down = λ i lt. set-by parent ra rb (λ (k x : ℕ). (x ≡ k → ⊥) → farther x < farther k) in-list
                 (λ _.
-                    let x : flag (eqb (cell reps rb) ra) ≡ 0 = ap flag (ne-eqb (cell reps rb) ra (λ z. ne (sym z ∙ ob))) in
-                    let y : flag (eqb (cell reps ra) ra) ≡ 1 = ap flag (eq-eqb (cell reps ra) ra oa) in
-                    omega (arith, f .flat rb lb eb)) i
+                let x : flag (eqb (cell reps rb) ra) ≡ 0 = ap flag (ne-eqb (cell reps rb) ra (λ z. ne (sym z ∙ ob))) in
+                let y : flag (eqb (cell reps ra) ra) ≡ 1 = ap flag (eq-eqb (cell reps ra) ra oa) in
+                omega (arith, f .flat rb lb eb)) i
                 (λ _ un. let x = ap (λ (r : ℕ). flag (eqb r ra)) (f .above i lt) in omega (arith, f .down i lt un));
             flat = λ i lt. set-by parent ra rb (λ (k x : ℕ). x ≡ k → farther k ≡ 0) in-list (λ z. absurd (ne (sym z))) i
                 (λ un e.
-                    let x : flag (eqb (cell reps i) ra) ≡ 0 = ap flag (ne-eqb (cell reps i) ra (λ z. un (sym (f .own i lt e) ∙ z))) in
-                    omega (arith, f .flat i lt e));
-            deep = λ i lt. omega (arith, f .deep i lt, flag-most (eqb (cell reps i) ra), fewer);
+                let x : flag (eqb (cell reps i) ra) ≡ 0 = ap flag (ne-eqb (cell reps i) ra (λ z. un (sym (f .own i lt e) ∙ z))) in
+                omega (arith, f .flat i lt e));
+            deep = λ i lt. omega (arith, f .deep i lt, flag-few (eqb (cell reps i) ra), fewer);
           }
 
     joined : Forest (set parent ra rb) count after
@@ -466,8 +463,8 @@ module _ {parent₀ : List ℕ} {count : ℕ} where
                     (λ un. g .settled k (omega arith) (s .is k (below k l un)));
               });
         } where
-      below : (k : ℕ) → k < i + 1 → (k ≡ i → ⊥) → k < i
-      below k l un = ⊎-elim (λ (z : k ≡ i). absurd (un z)) (λ (z : k < i). z) (eq-or-lt-of-le (omega arith))
+          below : (k : ℕ) → k < i + 1 → (k ≡ i → ⊥) → k < i
+          below k l un = ⊎-elim (λ (z : k ≡ i). absurd (un z)) (λ (z : k < i). z) (eq-or-lt-of-le (omega arith))
 
     pub settling-done : count ≤ i → Settles parent₀ count parent
     settling-done le =

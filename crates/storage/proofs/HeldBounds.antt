@@ -24,8 +24,7 @@ use Rattle.storage.specs.Equivs.{Rep}
 use Rattle.storage.specs.Vars.{IsPreserved}
 use Rattle.storage.specs.Entries.{Row, Uppers}
 use Rattle.storage.specs.Helds.{HoldsBounds, BeginsList, concretes, ownRule, OwnList, OwnBounds}
-use Rattle.laws.proofs.Filtering.{filter-length, filter-under}
-use Rattle.laws.proofs.Rooting.{under-front, under-back}
+use Rattle.laws.proofs.Filtering.{filter-length, filter-under, under-front, under-back}
 use Rattle.storage.proofs.Sifted.{filter-all}
 use Rattle.storage.proofs.EntryReads.{variable-at, entry-at-row, behind}
 use Rattle.storage.proofs.HeldIds.{held-list, held-none}
@@ -104,8 +103,8 @@ module _ {table : List ℕ} {c : Canon} {work : List ℕ} {h id : ℕ} {pol : Po
                 held-list
                 (sym (ap (beginList p t id) e
                 ∙ ap₂ (λ (a b : Bool). if (a || b) (λ _. []) (λ _. lowers (t id)))
-                  (own-mark k lt at own ∙ ap not (eq-eqb x 0 none))
-                  (reps-mark k lt rep at′ reps ∙ ap not (ne-eqb x′ 0 n))))
+                (own-mark k lt at own ∙ ap not (eq-eqb x 0 none))
+                (reps-mark k lt rep at′ reps ∙ ap not (ne-eqb x′ 0 n))))
                 (held-none work h);
           }
 
@@ -120,10 +119,10 @@ module _ {table : List ℕ} {c : Canon} {work : List ℕ} {h id : ℕ} {pol : Po
                 held-list
                 (filter-all (w .lower)
                 ∙ sym (ap (beginList p t id) e
-                  ∙ ap₂ (λ (a b : Bool). if (a || b) (λ _. []) (λ _. lowers (t id)))
-                    (own-mark k lt at own ∙ ap not (eq-eqb x 0 none))
-                    (reps-mark k lt rep at′ reps ∙ ap not (eq-eqb x′ 0 n))
-                  ∙ ap lowers (w .is)))
+                ∙ ap₂ (λ (a b : Bool). if (a || b) (λ _. []) (λ _. lowers (t id)))
+                (own-mark k lt at own ∙ ap not (eq-eqb x 0 none))
+                (reps-mark k lt rep at′ reps ∙ ap not (eq-eqb x′ 0 n))
+                ∙ ap lowers (w .is)))
                 (hold .is k (w .bounds .lowers) (w .under .0) (omega arith));
           }
 
@@ -138,9 +137,9 @@ under-of : (pol : Polarity) (k : ℕ) (l u : List ℕ) → Under k l → Under k
 under-of Positive k l u a b = a
 under-of Negative k l u a b = b
 
-length-of : (pol : Polarity) (l u : List ℕ) → length (boundsOf pol l u) ≤ length l + length u
-length-of Positive l u = omega arith
-length-of Negative l u = omega arith
+pub bounds-short : (pol : Polarity) (l u : List ℕ) → length (boundsOf pol l u) ≤ length l + length u
+bounds-short Positive l u = omega arith
+bounds-short Negative l u = omega arith
 
 module _ (p : Pass) (t : Reader) (v : Visit) (id : ℕ) (pol : Polarity) (bs : List ℕ) where
   rule-turn : (x : ℕ) (cs : List ℕ) (b : Bool)
@@ -173,7 +172,7 @@ module _ {table : List ℕ} {c : Canon} {work : List ℕ} {h id v : ℕ} {pol : 
         is = λ {p} {t} {l = lo} {u = up} k lt b ul uu room.
             let bs = boundsOf pol lo up in
             let under = under-of pol (c .count) lo up ul uu in
-            let held = hold .is k (ol .is b) under (omega (arith, length-of pol lo up)) in
+            let held = hold .is k (ol .is b) under (omega (arith, bounds-short pol lo up)) in
             record {
               list = concretes t bs;
               held = held;
@@ -189,7 +188,7 @@ module _ {table : List ℕ} {c : Canon} {work : List ℕ} {h id v : ℕ} {pol : 
         kept = hold .kept;
         is = λ {p} {t} {l = lo} {u = up} k lt b ul uu room v.
             let bs = boundsOf pol lo up in
-            let held = hold .is k (ol .is b) (under-of pol (c .count) lo up ul uu) (omega (arith, length-of pol lo up)) in
+            let held = hold .is k (ol .is b) (under-of pol (c .count) lo up ul uu) (omega (arith, bounds-short pol lo up)) in
             rule-variable p t v id pol bs (concretes t bs) (sym (held .count) ∙ none) (sym e ∙ pre .is k lt);
       }
 
@@ -202,7 +201,7 @@ module _ {table : List ℕ} {c : Canon} {work : List ℕ} {h id v : ℕ} {pol : 
         is = λ {p} {t} {l = lo} {u = up} k lt b ul uu room.
             let bs = boundsOf pol lo up in
             let under = under-of pol (c .count) lo up ul uu in
-            let few = length-of pol lo up in
+            let few = bounds-short pol lo up in
             let held = hold .is k (ol .is b) under (omega arith) in
             let z : q ≡ p .rep id = rep .is ∙ sym (k .reps .is id) in
             record {

@@ -22,6 +22,7 @@ use Rattle.rules.specs.Canonicalizer.{Pass, Reader}
 use Rattle.rules.specs.declared.Polarity.{Polarity}
 use Rattle.laws.proofs.Rows.{attr-words-length, few-dyns}
 use Rattle.lang_ty.specs.Sets.{SetAt, Fields, FieldType, Dyns, DynType}
+use Rattle.lang_ty.proofs.Children.{kids-length}
 use Rattle.storage.specs.declared.given.Canon.{Canon}
 use Rattle.storage.specs.declared.held.Which.{Which}
 use Rattle.storage.specs.declared.held.Which.the-variants.{All, Concrete, OfOthers, Atoms}
@@ -150,9 +151,6 @@ module _ {table : List ℕ} {c : Canon} {work₀ : List ℕ} {h l : ℕ} {which 
 -- the children of a set
 types-length : (t : Attr) → length (fieldTypes (t .fields)) ≡ length (t .fields)
 types-length t = length-map (t .fields) (λ (f : Field). f .type)
-
-kids-length : (t : Attr) → length (attrKids t) ≡ length (t .fields) + length (dynIds (t .dyn))
-kids-length t = omega (arith, length-append (fieldTypes (t .fields)) (dynIds (t .dyn)), types-length t)
 
 module _ {table : List ℕ} {a n i r : ℕ} where
   pub child-field : i < n → FieldType table a i r → SetChild table a n i r

@@ -1,6 +1,6 @@
 -- The first of each id held: marks of ids seen, and how they are taken away again. Assumes nothing.
 use mathlib.Core.Path.{_≡_, refl, sym, ap, ap₂, _∙_, subst}
-use mathlib.Core.Bool.{Bool, true, false, not}
+use mathlib.Core.Bool.{Bool, true, false, not, Bool·not-not}
 use Prim.Native.Nat.{ℕ, suc, _+_, _-_, _≤_, _<_}
 use native.Mathlib.Omega.{arith}
 use native.Mathlib.Numerals.{add-one}
@@ -16,8 +16,8 @@ use Rattle.rules.specs.Ceilings.{mostEntries}
 use Rattle.rules.specs.Plain.{contains, addNew, flag}
 use Rattle.rules.specs.Members.{addAll}
 use Rattle.storage.specs.Helds.{HeldList, only, HoldsIf, Unseen, FirstOfEach, HoldsFirst, Forgets, Deduplicates}
-use Rattle.laws.proofs.Filtering.{under-at}
-use Rattle.storage.proofs.Sifted.{new-length, adds-under, new-itself, new-other}
+use Rattle.laws.proofs.Filtering.{under-at, under-added}
+use Rattle.laws.proofs.Containing.{new-itself, new-other, new-length, flag-zero}
 use Rattle.storage.proofs.HeldIds.{held-list, held-none, held-ext}
 use Rattle.cells.specs.Placed.{Under}
 
@@ -59,10 +59,10 @@ module _ {work₀ : List ℕ} {h n : ℕ} where
           ap (λ (l : List ℕ). cell l (seenAt + v)) wiped
           ∙ getD-set-other work (seenAt + b) (seenAt + v) 0 0 (λ o. n (omega arith))
           ∙ f .marks g under few high room only v less
-            (ap (λ (l : List ℕ). contains l v) (drop-cons xs i 0 (omega arith))
-            ∙ ap (λ (t : Bool). if t (λ _. true) (λ _. contains (drop (suc i) xs) v)) (sym (ap (eqb v) item) ∙ y)
-            ∙ sym (ap (λ (j : ℕ). contains (drop j xs) v) (add-one i))
-            ∙ z)
+          (ap (λ (l : List ℕ). contains l v) (drop-cons xs i 0 (omega arith))
+          ∙ ap (λ (t : Bool). if t (λ _. true) (λ _. contains (drop (suc i) xs) v)) (sym (ap (eqb v) item) ∙ y)
+          ∙ sym (ap (λ (j : ℕ). contains (drop j xs) v) (add-one i))
+          ∙ z)
 
       elsewhere : (k : ℕ) → ((v : ℕ) → v < count → k ≡ seenAt + v → ⊥) → cell work′ k ≡ cell work₀ k
       elsewhere k other =
@@ -87,17 +87,13 @@ module _ {work₀ : List ℕ} {h n : ℕ} where
             };
       }
 
-not-not : (b : Bool) → not (not b) ≡ b
-not-not true = refl
-not-not false = refl
-
 pub first-is : {work w work′ : List ℕ} {h k b p x r : ℕ} {kept : Bool} → p ≡ seenAt + b → x ≡ cell work p → w ≡ set work p 1 → kept ≡ not (not (eqb x 0))
     → HoldsIf w h k b kept work′ r
     → HoldsFirst work h k b work′ r
 first-is {work} {w} {work′} {h} {k} {b} {p} {x = x} {r} {kept} e f g z put =
     record {
       is = subst (λ (l : List ℕ). HoldsIf l h k b (eqb (cell work (seenAt + b)) 0) work′ r) (g ∙ ap (λ (j : ℕ). set work j 1) e)
-          (subst (λ (t : Bool). HoldsIf w h k b t work′ r) (z ∙ not-not (eqb x 0) ∙ ap (λ (j : ℕ). eqb j 0) (f ∙ ap (cell work) e)) put);
+          (subst (λ (t : Bool). HoldsIf w h k b t work′ r) (z ∙ Bool·not-not (eqb x 0) ∙ ap (λ (j : ℕ). eqb j 0) (f ∙ ap (cell work) e)) put);
     }
 
 -- what `first_of_each` has after i ids
@@ -114,10 +110,6 @@ pub record Firsting (work₀ : List ℕ) (h n : ℕ) (work : List ℕ) (k i : �
   pub few : i ≤ n
   pub is : {bs : List ℕ} {count : ℕ} → HeldList work₀ h n bs → Under count bs → Unseen work₀ count → heldAt ≤ h → h + length bs ≤ length work₀
       → FirstsAt work₀ h count bs work k i
-
-unseen-flag : (b : Bool) → eqb (flag b) 0 ≡ not b
-unseen-flag true = refl
-unseen-flag false = refl
 
 new-only : (got : List ℕ) (x : ℕ) (b : Bool) → got ++ only (not b) x ≡ if b (λ _. got) (λ _. got ++ (x ∷ []))
 new-only got x true = append-nil got
@@ -168,7 +160,7 @@ module _ {work₀ : List ℕ} {h n : ℕ} where
           let len = was .few in
           let s : length marked ≡ length work = length-set work (seenAt + b) 1 in
           held-list
-          (ap (λ (t : Bool). was .got ++ only t b) (ap (λ (j : ℕ). eqb j 0) (was .marks b l) ∙ unseen-flag (contains (was .got) b)) ∙ new-only (was .got) b (contains (was .got) b))
+          (ap (λ (t : Bool). was .got ++ only t b) (ap (λ (j : ℕ). eqb j 0) (was .marks b l) ∙ flag-zero (contains (was .got) b)) ∙ new-only (was .got) b (contains (was .got) b))
           (put .is .is (held-ext (was .list) (λ j le less. getD-set-other work (seenAt + b) j 1 0 (omega arith))) (omega arith) (omega arith))
 
       first-turn : (v : ℕ) → v < count → (r : Bool) → eqb v b ≡ r → cell work′ (seenAt + v) ≡ flag (contains (addNew (was .got) b) v)
@@ -258,7 +250,7 @@ module _ {work : List ℕ} {h n : ℕ} where
             let size = g .count in
             let few = unseen .few in
             let a = first .is g under unseen high room in
-            let b = forget .is (a .list) (adds-under count [] bs tt under) (unseen .few) high (omega arith) (λ v lt z. a .marks v lt ∙ ap flag z) in
+            let b = forget .is (a .list) (under-added count [] bs tt under) (unseen .few) high (omega arith) (λ v lt z. a .marks v lt ∙ ap flag z) in
             record {
               list =
                   held-list (sym (ap (λ (t : Bool). if t (λ _. addAll [] bs) (λ _. bs)) (lt-ltb 16 (length bs) (omega arith))))

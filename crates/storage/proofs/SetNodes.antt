@@ -52,8 +52,8 @@ module _ {w₀ held : List ℕ} {a n h : ℕ} where
               let z = at fits in
               ⊎-elim
               (λ (e : j ≡ i).
-                  let y : a + 2 * j + 2 ≡ p = omega arith in
-                  ap (cell (set w p v)) y ∙ getD-set-same w p v 0 (omega (arith, c .same-length)) ∙ read ∙ ap (cell held) (omega arith))
+              let y : a + 2 * j + 2 ≡ p = omega arith in
+              ap (cell (set w p v)) y ∙ getD-set-same w p v 0 (omega (arith, c .same-length)) ∙ read ∙ ap (cell held) (omega arith))
               (λ (e : j < i). getD-set-other w p (a + 2 * j + 2) v 0 (λ y. omega arith) ∙ c .is j e fits room)
               (eq-or-lt-of-le (omega arith));
           other = λ k fits un.
@@ -136,10 +136,10 @@ module _ {w w₁ w₂ held xs : List ℕ} {b n d h : ℕ} (t : Attr) (row : Hold
     turn true e = ap (λ (l : List ℕ). cell l k) (dyn .none (eqb-true d 0 e))
     turn false e = ap (λ (l : List ℕ). cell l k) (dyn .some (eqb-false d 0 e) (omega arith)) ∙ getD-set-other w₁ (b + (2 * n + 2)) k (cell held (h + n)) 0 un
 
-  pub put-same : (k : ℕ) → ((i : ℕ) → i < n → k ≡ b + 2 * i + 2 → ⊥) → (k ≡ b + (2 * n + 2) → ⊥) → cell w₂ k ≡ cell w k
+  put-same : (k : ℕ) → ((i : ℕ) → i < n → k ≡ b + 2 * i + 2 → ⊥) → (k ≡ b + (2 * n + 2) → ⊥) → cell w₂ k ≡ cell w k
   put-same k un last = dyn-same k last ∙ puts .other k (omega arith) un
 
-  pub put-length : length w₂ ≡ length w
+  put-length : length w₂ ≡ length w
   put-length = turn (eqb d 0) refl where
     turn : (z : Bool) → eqb d 0 ≡ z → length w₂ ≡ length w
     turn true e = ap length (dyn .none (eqb-true d 0 e)) ∙ puts .same-length
@@ -153,8 +153,8 @@ module _ {w w₁ w₂ held xs : List ℕ} {b n d h : ℕ} (t : Attr) (row : Hold
       fields-put (t .fields) xs (omega arith)
       (λ i lt. put-same (b + 1 + 2 * i) (λ j lj e. omega arith) (λ e. omega arith) ∙ key-read (t .fields) i (set-fields t row) lt)
       (λ i lt.
-          ap (cell w₂) (omega arith) ∙ dyn-same (b + 2 * i + 2) (λ e. omega arith)
-          ∙ puts .is i (omega arith) (omega arith) (omega arith) ∙ holds-at answers i (omega arith))
+      ap (cell w₂) (omega arith) ∙ dyn-same (b + 2 * i + 2) (λ e. omega arith)
+      ∙ puts .is i (omega arith) (omega arith) (omega arith) ∙ holds-at answers i (omega arith))
 
   put-dyn : Holds w₂ (b + 1 + 2 * length (t .fields)) (dynWords (retypeDyn (t .dyn) (cell xs (length (t .fields)))))
   put-dyn =
@@ -163,9 +163,9 @@ module _ {w w₁ w₂ held xs : List ℕ} {b n d h : ℕ} (t : Attr) (row : Hold
       dyn-stands (t .dyn)
       (put-same (b + 1 + 2 * length (t .fields)) (λ j lj e. omega arith) (λ e. omega arith) ∙ dyns-read (t .dyn) (set-dyn t row))
       (λ has.
-          ap (cell w₂) (omega arith) ∙ ap (λ (l : List ℕ). cell l (b + (2 * n + 2))) (dyn .some (λ e. omega arith) (omega arith))
-          ∙ getD-set-same w₁ (b + (2 * n + 2)) (cell held (h + n)) 0 (omega (arith, puts .same-length))
-          ∙ ap (λ (k : ℕ). cell held (h + k)) fields ∙ holds-at answers (length (t .fields)) (omega arith))
+      ap (cell w₂) (omega arith) ∙ ap (λ (l : List ℕ). cell l (b + (2 * n + 2))) (dyn .some (λ e. omega arith) (omega arith))
+      ∙ getD-set-same w₁ (b + (2 * n + 2)) (cell held (h + n)) 0 (omega (arith, puts .same-length))
+      ∙ ap (λ (k : ℕ). cell held (h + k)) fields ∙ holds-at answers (length (t .fields)) (omega arith))
 
   abbrev rest : List ℕ
   rest = t .isOpen ∷ length (t .optional) ∷ t .optional
@@ -179,13 +179,13 @@ module _ {w w₁ w₂ held xs : List ℕ} {b n d h : ℕ} (t : Attr) (row : Hold
       let z : suc b + length (fieldWords (t .fields) ++ dynWords (t .dyn)) ≡ b + 2 * n + 2 + d = omega arith in
       holds-from w₂ (b + 2 * n + 2 + d) rest
       (λ i lt. same (b + 2 * n + 2 + d + i) (omega arith) ∙ holds-at (holds-place z old) i lt) where
-    same : (k : ℕ) → b + 2 * n + 2 + d ≤ k → cell w₂ k ≡ cell w k
-    same k le = turn (eqb d 0) refl where
-      turn : (z : Bool) → eqb d 0 ≡ z → cell w₂ k ≡ cell w k
-      turn true e = ap (λ (l : List ℕ). cell l k) (dyn .none (eqb-true d 0 e)) ∙ puts .other k (omega arith) (λ j lj y. omega arith)
-      turn false e = let un = eqb-false d 0 e in put-same k (λ j lj y. omega arith) (λ y. un (omega arith))
+        same : (k : ℕ) → b + 2 * n + 2 + d ≤ k → cell w₂ k ≡ cell w k
+        same k le = turn (eqb d 0) refl where
+          turn : (z : Bool) → eqb d 0 ≡ z → cell w₂ k ≡ cell w k
+          turn true e = ap (λ (l : List ℕ). cell l k) (dyn .none (eqb-true d 0 e)) ∙ puts .other k (omega arith) (λ j lj y. omega arith)
+          turn false e = let un = eqb-false d 0 e in put-same k (λ j lj y. omega arith) (λ y. un (omega arith))
 
-  pub put-row : Holds w₂ b (attrWords (retyped t xs))
+  put-row : Holds w₂ b (attrWords (retyped t xs))
   put-row =
       let fs = retypeFields (t .fields) xs in
       let d′ = retypeDyn (t .dyn) (cell xs (length (t .fields))) in

@@ -1,9 +1,9 @@
 // TypeStorage, read: entry id is row base + id of the table's rows.
+use crate::given::Canon;
 use cells::add;
 use cells::at;
 use cells::get;
 use cells::place;
-use crate::given::Canon;
 use lang_ty::arena::Found;
 use rules::Polarity;
 ghost use Rattle.storage.specs.Entries.{Row, KindAt, IsVar, EntryOfTwo, EntryRead, IsAtom, Uppers, FindsNamed, NamedBound, Turned};
@@ -28,8 +28,11 @@ pub struct EntryKind {}
 
 impl EntryKind {
     pub const VARIABLE: u32 = 2;
+
     pub const PRIMITIVE: u32 = 3;
+
     pub const NEG: u32 = 8;
+
     pub const NAMED: u32 = 9;
 }
 
@@ -133,5 +136,9 @@ pub fn named_bound(table: &[u32], c: Canon, v: u32) -> Found
 pub fn turned(table: &[u32], c: Canon, id: u32, pol: Polarity) -> Polarity
     ensures { λ r. ⌜ Turned (now (table .entry)) c id pol r ⌝ }
 {
-    if is_variable(table, c, id) { pol.flip() } else { pol }
+    if is_variable(table, c, id) {
+        pol.flip()
+    } else {
+        pol
+    }
 }

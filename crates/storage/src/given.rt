@@ -11,7 +11,10 @@ pub struct Canon {
 
 impl Canon {
     pub const KEYS: u32 = 96;
+
     pub const OPERATIONS: u32 = 2147483647;
+
     pub const INTERVAL: u32 = 512;
+
     pub const CHAIN: u32 = 4;
 }

@@ -1,15 +1,15 @@
 // Lists of ids held in the working slice: the bounds by which a variable is expanded, the children of an entry.
+use crate::entries;
+use crate::entries::Entry;
+use crate::equiv::rep;
+use crate::given::Canon;
+use crate::vars::is_preserved;
 use cells::add;
 use cells::at;
 use cells::get;
 use cells::place;
 use cells::put;
 use cells::set;
-use crate::entries::Entry;
-use crate::entries;
-use crate::equiv::rep;
-use crate::given::Canon;
-use crate::vars::is_preserved;
 use lang_ty::attrset;
 use layout::TableSlice;
 use layout::WorkSlice;
@@ -150,7 +150,15 @@ fn own_list(table: &[u32], v: u32, pol: Polarity) -> u32
 
 // The bounds by which the variable id with lists at v is expanded, held from h on: those that are no variables, or without any those of
 // other classes.
-pub fn own_bounds(table: &[u32], c: Canon, work: &mut [u32], h: u32, id: u32, v: u32, pol: Polarity) -> Own
+pub fn own_bounds(
+    table: &[u32],
+    c: Canon,
+    work: &mut [u32],
+    h: u32,
+    id: u32,
+    v: u32,
+    pol: Polarity,
+) -> Own
     ensures { λ r. ⌜ OwnBounds (now (table .entry)) c (now (work .entry)) h id v pol (now (work .exit)) r ⌝ }
 {
     let l = own_list(table, v, pol);
@@ -170,7 +178,11 @@ pub fn own_bounds(table: &[u32], c: Canon, work: &mut [u32], h: u32, id: u32, v:
 fn set_child(table: &[u32], a: u32, n: u32, i: u32) -> u32
     ensures { λ r. ⌜ SetChild (now (table .entry)) a n i r ⌝ }
 {
-    if i < n { attrset::field_type(table, a, i) } else { attrset::dyn_type(table, a) }
+    if i < n {
+        attrset::field_type(table, a, i)
+    } else {
+        attrset::dyn_type(table, a)
+    }
 }
 
 // The ids of the fields and the dyn of the set at a, held from h on; how many there are.

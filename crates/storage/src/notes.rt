@@ -1,10 +1,10 @@
 // What a pass notes and counts: polarity bits, keys, operations, the bail, and the lists that a chain of fallbacks began.
+use crate::equiv::rep;
+use crate::given::Canon;
 use cells::add;
 use cells::get;
 use cells::place;
 use cells::put;
-use crate::equiv::rep;
-use crate::given::Canon;
 use lang_ty::arena::Pass;
 use layout::WorkSlice;
 use rules::Polarity;
@@ -23,8 +23,20 @@ impl PolarityBits {
     {
         let b = self.bits;
         match pol {
-            Polarity::Positive => { if b % 2 == 0 { PolarityBits { bits: b + 1 } } else { self } }
-            Polarity::Negative => { if b < 2 { PolarityBits { bits: b + 2 } } else { self } }
+            Polarity::Positive => {
+                if b % 2 == 0 {
+                    PolarityBits { bits: b + 1 }
+                } else {
+                    self
+                }
+            }
+            Polarity::Negative => {
+                if b < 2 {
+                    PolarityBits { bits: b + 2 }
+                } else {
+                    self
+                }
+            }
         }
     }
 

@@ -1,12 +1,12 @@
 // A variable as a node: its representative, and itself beside what its bounds expand to.
-use cells::get;
-use cells::place;
 use crate::equiv::rep;
 use crate::given::Canon;
+use cells::get;
+use cells::place;
+use lang_ty::arena;
 use lang_ty::arena::Given;
 use lang_ty::arena::OutputTy;
 use lang_ty::arena::Pass;
-use lang_ty::arena;
 use layout::TableSlice;
 use rules::Polarity;
 ghost use mathlib.Core.Path.{_≡_};
@@ -37,7 +37,15 @@ fn composite(pol: Polarity) -> u32
 }
 
 // The variable beside node x, unless that is a TyVar or Bottom.
-fn beside(table: &[u32], c: Canon, arena: &mut [u32], q: Pass, x: u32, id: u32, pol: Polarity) -> Given
+fn beside(
+    table: &[u32],
+    c: Canon,
+    arena: &mut [u32],
+    q: Pass,
+    x: u32,
+    id: u32,
+    pol: Polarity,
+) -> Given
     ensures { λ r. ⌜ Beside (now (table .entry)) c (now (arena .entry)) q x id pol (now (arena .exit)) r ⌝ }
 {
     let k = arena::kind(arena, x);
@@ -66,7 +74,15 @@ fn preserving(table: &[u32], c: Canon, arena: &mut [u32], g: Given, id: u32, pol
 }
 
 // The expansion of a variable's bounds, beside the variable where it is preserved.
-pub fn expanded(table: &[u32], c: Canon, arena: &mut [u32], g: Given, id: u32, pol: Polarity, kept: bool) -> Given
+pub fn expanded(
+    table: &[u32],
+    c: Canon,
+    arena: &mut [u32],
+    g: Given,
+    id: u32,
+    pol: Polarity,
+    kept: bool,
+) -> Given
     ensures { λ r. ⌜ Expanded (now (table .entry)) c (now (arena .entry)) g id pol kept (now (arena .exit)) r ⌝ }
 {
     if kept {

@@ -24,7 +24,7 @@ use Rattle.table.specs.declared.judging.Verdict.the-variants.{Taken as T
 use Rattle.table.specs.Rows.{beginAt, countRow, overBy, nameAfter, ascendsBy, Fine, advanceBy, judgeBy, rowAt, bare, tableAt, budgetBy, readingOf, Layout}
 use Rattle.table.proofs.Growing.{begun-in-order, built, bare-snoc}
 
-pub zero-or : (n : ℕ) → (n ≡ 0) ⊎ (n ≡ 0 → ⊥)
+zero-or : (n : ℕ) → (n ≡ 0) ⊎ (n ≡ 0 → ⊥)
 zero-or zero = inl refl
 zero-or (suc n) = inr (λ e. let z : ⊥ = omega arith in z)
 

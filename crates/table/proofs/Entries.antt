@@ -18,11 +18,11 @@ use Rattle.table.specs.Rows.{At, every, Ascend, Present, PlacedIn, Place
 use mathlib.Core.Option.{none, some}
 
 -- the lists of a row, cell by cell
-pub keys-every : (row : List ℕ) (a n : ℕ) → fieldKeys (fieldsAt row a n) ≡ every row 2 a n
+keys-every : (row : List ℕ) (a n : ℕ) → fieldKeys (fieldsAt row a n) ≡ every row 2 a n
 keys-every row a zero = refl
 keys-every row a (suc n) = ap (λ (l : List ℕ). cell row a ∷ l) (keys-every row (a + 2) n)
 
-pub types-every : (row : List ℕ) (a b n : ℕ) → b ≡ a + 1 → fieldTypes (fieldsAt row a n) ≡ every row 2 b n
+types-every : (row : List ℕ) (a b n : ℕ) → b ≡ a + 1 → fieldTypes (fieldsAt row a n) ≡ every row 2 b n
 types-every row a b zero e = refl
 types-every row a b (suc n) e = ap₂ {C = List ℕ} (λ (x : ℕ) (l : List ℕ). x ∷ l) (ap (cell row) (sym e)) (types-every row (a + 2) (b + 2) n (omega arith))
 
@@ -30,7 +30,7 @@ pub part-every : (row : List ℕ) (a n : ℕ) → part row a n ≡ every row 1 a
 part-every row a zero = refl
 part-every row a (suc n) = ap (λ (l : List ℕ). cell row a ∷ l) (ap (λ (k : ℕ). part row k n) (sym (add-one a)) ∙ part-every row (a + 1) n)
 
-pub every-length : (row : List ℕ) (step a n : ℕ) → length (every row step a n) ≡ n
+every-length : (row : List ℕ) (step a n : ℕ) → length (every row step a n) ≡ n
 every-length row step a zero = refl
 every-length row step a (suc n) = ap suc (every-length row step (a + step) n)
 
@@ -146,7 +146,7 @@ module _ (row : List ℕ) (p : Places) (q : PlacedIn row p) where
       held-if (eqb (cell row (dynPlace row 1)) 0) (dynPlace row 1 + 1)
       ∙ ap₂ {C = List ℕ} (λ (a n : ℕ). every row 1 (a + 1) n) (sym (q .dynamic)) (sym (q .held))
 
-  pub set-weighs : p .fields + p .held + (p .fields + p .optional) ≡ weight (set (attrAt row 1))
+  set-weighs : p .fields + p .held + (p .fields + p .optional) ≡ weight (set (attrAt row 1))
   set-weighs =
       let a = length-append (fieldTypes (attrAt row 1 .fields)) (dynIds (attrAt row 1 .dyn)) in
       let b = length-append (fieldKeys (attrAt row 1 .fields)) (attrAt row 1 .optional) in

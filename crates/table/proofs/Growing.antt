@@ -22,7 +22,7 @@ use Rattle.table.specs.declared.judging.Progress.{Progress}
 use Rattle.table.specs.Rows.{mostLines, beginAt, Few, countRow, Fine, advanceBy, rowAt, bare, tableAt, budgetBy, Layout}
 
 -- what a row in order tells: it is the budget line and the first, or of a section that is not past
-pub in-order : (stage sec : ℕ) → inOrder stage sec ≡ true → ((stage ≡ 0) × (sec ≡ 0)) ⊎ ((stage ≡ 0 → ⊥) × (stage ≤ sec))
+in-order : (stage sec : ℕ) → inOrder stage sec ≡ true → ((stage ≡ 0) × (sec ≡ 0)) ⊎ ((stage ≡ 0 → ⊥) × (stage ≤ sec))
 in-order zero sec h = inl (refl, eqb-true sec 0 h)
 in-order (suc n) sec h = inr ((λ e. let z : ⊥ = omega arith in z), leb-true (suc n) sec (simp (ne-eqb (suc n) 0 (λ e. let z : ⊥ = omega arith in z)) at h))
 

@@ -8,18 +8,15 @@ use mathlib.Core.List.{List, [], _∷_, _++_, append-nil}
 use lib.ListN.{drop}
 use lib.Dec.{ltb}
 use Rattle.cells.specs.Part.{run, cell, part, if}
+use Rattle.cells.proofs.Choices.{if-self}
 use Rattle.rules.specs.Plain.{both}
 use Rattle.rules.specs.Table.{Entry, var, attrAt, attrKids, fieldTypes, fieldKeys, dynIds, entryOf, kids, allBelow, inRange, Result, accepted, refused, known}
 use Rattle.text.specs.Reads.{span}
 use Rattle.table.specs.declared.Table.{Table}
 use Rattle.table.specs.declared.rows.Places.{Places}
 use Rattle.table.specs.declared.Answer.the-variants.{Accepted, Refused}
-use Rattle.table.specs.Rows.{beginAt, Begin, At, every, Below, PlacedIn, Placed, VarKnown, SetKnown, KeysKnown, NamedKnown, PlainKnown, EntryKnown, rowAt, bare, unless, EntriesKnown, RootsKnown}
+use Rattle.table.specs.Rows.{beginAt, Begin, At, every, Below, PlacedIn, Placed, VarKnown, SetKnown, KeysKnown, NamedKnown, PlainKnown, EntryKnown, rowAt, bare, passing, EntriesKnown, RootsKnown}
 use Rattle.table.proofs.Entries.{part-every, entryBy, by-kind, poor, set-keys, set-types, set-optional, set-dyn}
-
-both-true : (b : Bool) → both b (λ _. true) ≡ b
-both-true true = refl
-both-true false = refl
 
 both-if : (b x : Bool) (a c : Bool) → a ≡ both c (λ _. x) → if b (λ _. a) (λ _. false) ≡ both (if b (λ _. c) (λ _. false)) (λ _. x)
 both-if true x a c h = h
@@ -84,19 +81,19 @@ module _ {w : List ℕ} {from to kind n names : ℕ} {b : Bool} where
   at-kind k e h = record { is = λ x y q. h ∙ ap (inRange n names) (sym (by-kind (span w from to) k (sym e ∙ q))) }
 
   pub known-5 : kind ≡ 5 → Below w from to 1 1 1 n b → PlainKnown w from to kind n names b
-  known-5 e h = at-kind 5 e (h .is ∙ sym (both-true (allBelow n (cell (span w from to) 1 ∷ []))))
+  known-5 e h = at-kind 5 e (h .is ∙ sym (if-self (allBelow n (cell (span w from to) 1 ∷ []))))
 
   pub known-8 : kind ≡ 8 → Below w from to 1 1 1 n b → PlainKnown w from to kind n names b
-  known-8 e h = at-kind 8 e (h .is ∙ sym (both-true (allBelow n (cell (span w from to) 1 ∷ []))))
+  known-8 e h = at-kind 8 e (h .is ∙ sym (if-self (allBelow n (cell (span w from to) 1 ∷ []))))
 
   pub known-6 : kind ≡ 6 → Below w from to 1 1 2 n b → PlainKnown w from to kind n names b
-  known-6 e h = at-kind 6 e (h .is ∙ sym (both-true (allBelow n (cell (span w from to) 1 ∷ cell (span w from to) 2 ∷ []))))
+  known-6 e h = at-kind 6 e (h .is ∙ sym (if-self (allBelow n (cell (span w from to) 1 ∷ cell (span w from to) 2 ∷ []))))
 
   pub known-10 : kind ≡ 10 → Below w from to 1 1 2 n b → PlainKnown w from to kind n names b
-  known-10 e h = at-kind 10 e (h .is ∙ sym (both-true (allBelow n (cell (span w from to) 1 ∷ cell (span w from to) 2 ∷ []))))
+  known-10 e h = at-kind 10 e (h .is ∙ sym (if-self (allBelow n (cell (span w from to) 1 ∷ cell (span w from to) 2 ∷ []))))
 
   pub known-11 : kind ≡ 11 → Below w from to 1 1 2 n b → PlainKnown w from to kind n names b
-  known-11 e h = at-kind 11 e (h .is ∙ sym (both-true (allBelow n (cell (span w from to) 1 ∷ cell (span w from to) 2 ∷ []))))
+  known-11 e h = at-kind 11 e (h .is ∙ sym (if-self (allBelow n (cell (span w from to) 1 ∷ cell (span w from to) 2 ∷ []))))
 
   pub known-9 : kind ≡ 9 → NamedKnown w from to n names b → PlainKnown w from to kind n names b
   known-9 e h = at-kind 9 e (h .is)
@@ -116,7 +113,7 @@ module _ {w : List ℕ} {from to n names kind : ℕ} {b : Bool} (k : At w from t
   entry-var e h = record {
     is =
         h .is
-        ∙ sym (both-true (allBelow n (kids (entryBy 2 (span w from to)))))
+        ∙ sym (if-self (allBelow n (kids (entryBy 2 (span w from to)))))
         ∙ ap (inRange n names) (sym (by-kind (span w from to) 2 (sym e ∙ k .is)));
   }
 
@@ -156,7 +153,7 @@ entries-start {w} {t} =
 
 module _ {w : List ℕ} {t : Table} {i : ℕ} (inv : Entries w t i) where
   pub entries-done : t .entries ≤ i → EntriesKnown w t (Accepted t)
-  entries-done h = record { is = ap (λ (m : Result (Unit {0})). unless m t w) (sym (known-none (entryTest t) w (2 + t .names + i) (1 + t .names + i) (t .entries - i) (omega arith)) ∙ inv .is) }
+  entries-done h = record { is = ap (λ (m : Result (Unit {0})). passing m t w) (sym (known-none (entryTest t) w (2 + t .names + i) (1 + t .names + i) (t .entries - i) (omega arith)) ∙ inv .is) }
 
   module _ {a e : ℕ} {b : Bool} (lt : i < t .entries) (f : Begin w (1 + t .names + i) a) (g : Begin w (2 + t .names + i) e) (h : EntryKnown w a e (t .entries) (t .names) b) where
     turn : (c : Bool) → b ≡ c → if c (λ _. known (entryTest t) (2 + t .names + i + 1) (run (rowAt w) (1 + t .names + i + 1) (t .entries - (i + 1)))) (λ _. refused 3 (2 + t .names + i)) ≡ known (entryTest t) (2 + t .names) (run (rowAt w) (1 + t .names) (t .entries))
@@ -166,7 +163,7 @@ module _ {w : List ℕ} {t : Table} {i : ℕ} (inv : Entries w t i) where
         ∙ inv .is
 
     pub entries-no : b ≡ false → EntriesKnown w t (Refused 3 (2 + t .names + i))
-    entries-no q = record { is = ap (λ (m : Result (Unit {0})). unless m t w) (turn false q) }
+    entries-no q = record { is = ap (λ (m : Result (Unit {0})). passing m t w) (turn false q) }
 
     pub entries-more : b ≡ true → Entries w t (i + 1)
     entries-more q =
@@ -185,23 +182,19 @@ known-if : (b : Bool) (x y z : Result (Unit {0})) → x ≡ y → if b (λ _. x)
 known-if true x y z h = h
 known-if false x y z h = refl
 
-pub known-bare : (P : List ℕ → Bool) (k : ℕ) (rs : List (List ℕ)) → known P k (bare rs) ≡ known (λ (row : List ℕ). P (drop 1 row)) k rs
+known-bare : (P : List ℕ → Bool) (k : ℕ) (rs : List (List ℕ)) → known P k (bare rs) ≡ known (λ (row : List ℕ). P (drop 1 row)) k rs
 known-bare P k [] = refl
 known-bare P k (r ∷ rs) = known-if (P (drop 1 r)) (known P (suc k) (bare rs)) (known (λ (row : List ℕ). P (drop 1 row)) (suc k) rs) (refused 3 k) (known-bare P (suc k) rs)
 
-abbrev pub wholeTest : Table → List ℕ → Bool
+abbrev wholeTest : Table → List ℕ → Bool
 wholeTest t row = rootTest t (drop 1 row)
 
 pub second : (row : List ℕ) → cell (drop 1 row) 0 ≡ cell row 1
 second [] = refl
 second (x ∷ row) = refl
 
-if-same : (b : Bool) → if b (λ _. true) (λ _. false) ≡ b
-if-same true = refl
-if-same false = refl
-
 root-tested : (t : Table) (row : List ℕ) → allBelow (t .entries) (cell row 1 ∷ []) ≡ wholeTest t row
-root-tested t row = if-same (ltb (cell row 1) (t .entries)) ∙ ap (λ (x : ℕ). ltb x (t .entries)) (sym (second row))
+root-tested t row = if-self (ltb (cell row 1) (t .entries)) ∙ ap (λ (x : ℕ). ltb x (t .entries)) (sym (second row))
 
 pub record Roots (w : List ℕ) (t : Table) (i : ℕ) : Type 0 where
   pub is : known (wholeTest t) (rootRow t + i + 1) (run (rowAt w) (rootRow t + i) (t .roots - i)) ≡ known (rootTest t) (2 + t .names + t .entries + t .pairs + t .marks) (bare (run (rowAt w) (rootRow t) (t .roots)))
@@ -221,7 +214,7 @@ roots-start {w} {t} =
 module _ {w : List ℕ} {t : Table} {i : ℕ} (inv : Roots w t i) where
   pub roots-done : t .roots ≤ i → RootsKnown w t (Accepted t)
   roots-done h = record {
-    is = ap (λ (m : Result (Unit {0})). unless m t w) (sym (known-none (wholeTest t) w (rootRow t + i + 1) (rootRow t + i) (t .roots - i) (omega arith)) ∙ inv .is);
+    is = ap (λ (m : Result (Unit {0})). passing m t w) (sym (known-none (wholeTest t) w (rootRow t + i + 1) (rootRow t + i) (t .roots - i) (omega arith)) ∙ inv .is);
     kept = refl;
   }
 
@@ -232,7 +225,7 @@ module _ {w : List ℕ} {t : Table} {i : ℕ} (inv : Roots w t i) where
         ∙ inv .is
 
     pub roots-no : b ≡ false → RootsKnown w t (Refused 3 (rootRow t + i + 1))
-    roots-no q = record { is = ap (λ (m : Result (Unit {0})). unless m t w) (turn2 false q); kept = tt }
+    roots-no q = record { is = ap (λ (m : Result (Unit {0})). passing m t w) (turn2 false q); kept = tt }
 
     pub roots-more : b ≡ true → Roots w t (i + 1)
     roots-more q =

@@ -1,32 +1,38 @@
 -- A line, and all lines: what the rows come to is what the rules say. Assumes nothing.
 use mathlib.Core.Path.{_≡_, refl, sym, ap, ap₂, _∙_, subst}
-use mathlib.Core.Bool.{Bool, true, false}
+use mathlib.Core.Bool.{true}
 use Prim.Native.Nat.{ℕ, suc, _+_, _-_, _≤_, _<_, _^_}
 use native.Mathlib.Omega.{arith}
 use native.Mathlib.Numerals.{add-one, lt-of-le-of-ne}
-use mathlib.Core.List.{List, [], _∷_, _++_}
+use mathlib.Core.List.{List, [], _∷_}
 use lib.ListN.{length, set, length-set}
 use lib.Seq.{getD-set-other}
 use lib.Dec.{eqb}
 use borrow.Author.Tests.{eq-eqb, ne-eqb}
-use Rattle.cells.specs.Part.{cell, if}
+use Rattle.cells.specs.Part.{cell}
 use Rattle.layout.specs.Layout.{rowsAt, tableWords, tableLength}
 use Rattle.rules.specs.Ceilings.{mostText, mostIds}
-use Rattle.rules.specs.Text.{cut, pieces}
+use Rattle.rules.specs.Text.{Kind, pieces}
 use Rattle.rules.specs.Table.{kinds, sectionOf, inOrder, rowWeight, add, frozenEntry, Reading, nothing, Admission, admitted, fault, admit, inForm, step, then, atLine, begun, lines}
 use Rattle.rules.specs.Table as rules
 use Rattle.text.specs.declared.Got.{Got}
 use Rattle.text.specs.declared.Got.the-variants.{Bad, To}
 use Rattle.text.specs.Reads.{span, Seek, FieldRoom, Ends, gotWords, Row}
+use Rattle.text.specs.Keywords.{kindsIn}
+use Rattle.text.proofs.Leaves.{cut-some}
 use Rattle.text.proofs.Spans.{span-none, span-next, span-whole}
 use Rattle.table.specs.declared.judging.Progress.{Progress}
 use Rattle.table.specs.declared.Answer.the-variants.{Accepted, Refused}
 use Rattle.table.specs.declared.judging.Verdict.{Verdict}
 use Rattle.table.specs.declared.judging.Verdict.the-variants.{Taken as TakenV, Fault}
-use Rattle.table.specs.Rows.{mostLines, beginAt, Few, countRow, overBy, ascendsBy, Fine, advanceBy, Admitted, Judged, tableFrom, readingOf, takenOf, Layout, Ready, Went, Goes, Apart, Lined, untouched, Unread, Begun, Lines}
+use Rattle.table.specs.Rows.{mostLines, beginAt, Few, countRow, overBy, ascendsBy, Fine, advanceBy, Admitted, Judged, tableFrom, readingOf, takenOf, Layout, Ready, Kinds, Went, Goes, Apart, Lined, untouched, Unread, Begun, Lines}
 use Rattle.table.proofs.Growing.{grown, fine-grown, laid-grown}
 use Rattle.table.proofs.Admitting.{reading-same, layout-same, said, passed, admitted-by}
 use mathlib.Core.Option.{Option}
+
+-- a row by kinds that are a table's
+pub row-by : {b s : List ℕ} {from to top : ℕ} {w w′ : List ℕ} {r : Got} → Kinds b → Row (kindsIn b 16) s from to top w w′ r → Row kinds s from to top w w′ r
+row-by {s = s} {from} {to} {top} {w} {w′} {r} h x = subst (λ (ks : List Kind). Row ks s from to top w w′ r) (h .are) x
 
 -- what is written of a row stands behind the beginnings of rows
 row-apart : {text w w′ : List ℕ} {from to : ℕ} {p : Progress} {r : Got} → Ready text from to w p → Row kinds text from to (p .top) w w′ r → Apart w w′
@@ -126,15 +132,6 @@ module _ {text w w′ : List ℕ} {from to : ℕ} {p : Progress} {r : Got} {t : 
             kept = λ k lt. ap (λ (l : List ℕ). cell l k) put ∙ getD-set-other w′ (rowsAt + q .lines) k t 0 (omega arith) ∙ row-apart h x .kept k lt;
           };
         }
-
--- a cut is of some pieces
-cut-if : (P : List (List ℕ) → Type 0) (q r : List (List ℕ)) (t : Bool) → P q → P r → P (if t (λ _. q) (λ _. r))
-cut-if P q r true h k = h
-cut-if P q r false h k = k
-
-cut-some : (P : List (List ℕ) → Type 0) → ((p : List ℕ) (ps : List (List ℕ)) → P (p ∷ ps)) → (sep : ℕ) (got x : List ℕ) → P (cut sep got x)
-cut-some P f sep got [] = f got []
-cut-some P f sep got (b ∷ bs) = cut-if P (got ∷ cut sep [] bs) (cut sep (got ++ (b ∷ [])) bs) (eqb b sep) (f got (cut sep [] bs)) (cut-some P f sep (got ++ (b ∷ [])) bs)
 
 -- a line with a text after it
 lines-next : (k : ℕ) (r : Reading) (l x : List ℕ) → lines k r (l ∷ pieces 10 x) ≡ then (atLine k (step r l)) (λ (q : Reading). lines (suc k) q (pieces 10 x))

@@ -1,53 +1,34 @@
 -- Sections, counts, ceilings, and what is said of a row. Assumes nothing.
-use mathlib.Core.Path.{_≡_, refl, sym, ap, ap₂, _∙_, subst}
+use mathlib.Core.Path.{_≡_, refl, sym, ap, ap₂, _∙_}
 use mathlib.Core.Bool.{Bool, true, false}
-use Prim.Native.Nat.{ℕ, zero, suc, _+_, _-_, _≤_, _<_}
+use Prim.Native.Nat.{ℕ, _+_, _-_, _*_, _≤_, _<_}
 use native.Mathlib.Omega.{arith}
-use native.Mathlib.Nat.{not-suc-le-zero, eq-or-lt-of-le}
-use mathlib.Core.Logic.{⊎-elim}
 use mathlib.Core.List.{List}
-use lib.ListN.{List·getD-eq-default}
+use lib.ListN.{getD, List·getD-eq-default}
 use lib.Dec.{eqb, ltb, leb}
 use borrow.Author.Tests.{lt-ltb, le-ltb, eq-eqb, ne-eqb, ltb-false}
 use Rattle.cells.specs.Part.{cell, if}
+use Rattle.cells.proofs.Parts.{run-getD}
+use Rattle.cells.proofs.Choices.{true-false}
 use Rattle.rules.specs.Plain.{before, both}
 use Rattle.rules.specs.Text.{Kind, noKind}
 use Rattle.rules.specs.Table.{kinds, sectionOf, rowWeight}
 use Rattle.text.specs.Reads.{span}
+use Rattle.text.specs.Keywords.{Byte, kindAt, kindsIn}
 use Rattle.table.specs.declared.Table.{Table}
 use Rattle.table.specs.declared.judging.Progress.{Progress}
 use Rattle.table.specs.declared.judging.Verdict.{Verdict}
 use Rattle.table.specs.declared.judging.Verdict.the-variants.{Taken, Fault}
 use Rattle.table.specs.Rows.{Begin, At, Section, Before, Weight, KeysAscend, countRow, Counted, NamesOver, EntriesOver, RestOver, overBy, Over, InOrder, NameAscends, Ascends, RowWeight, Size, StageAfter, advanceBy, Advanced, judgeBy, Judged}
 
--- what holds of each number below n
-abbrev Upto : (ℕ → Type 0) → ℕ → Type 0
-Upto P zero = Unit {0}
-Upto P (suc n) = Upto P n × P n
-
-upto : (P : ℕ → Type 0) (n k : ℕ) → Upto P n → k < n → P k
-upto P zero k h l = absurd (not-suc-le-zero l)
-upto P (suc n) k h l = ⊎-elim (λ (e : k ≡ n). subst P (sym e) (h .1)) (λ (m : k < n). upto P n k (h .0) m) (eq-or-lt-of-le (omega arith))
-
--- the sections by the numbers of their kinds, as the code tells them
-abbrev sectionBy : ℕ → ℕ
-sectionBy k = if (ltb k 2) (λ _. k) (λ _. if (ltb k 13) (λ _. 2) (λ _. k - 10))
-
-section-by : (k : ℕ) → k < 16 → sectionBy k ≡ sectionOf k
-unfolding sectionOf
-section-by k l =
-    upto (λ (k : ℕ). sectionBy k ≡ sectionOf k) 16 k
-    ((((((((((((((((tt, refl), refl), refl), refl), refl), refl), refl), refl), refl), refl), refl), refl), refl), refl), refl), refl) l
-
 module _ {kind : ℕ} where
-  pub section-low : kind < 2 → Section kind kind
-  section-low h = record { is = simp (lt-ltb kind 2 h) at (section-by kind (omega arith)) }
-
-  pub section-entry : 2 ≤ kind → kind < 13 → Section kind 2
-  section-entry g h = record { is = simp (le-ltb kind 2 g, lt-ltb kind 13 h) at (section-by kind (omega arith)) }
-
-  pub section-late : 2 ≤ kind → 13 ≤ kind → kind < 16 → Section kind (kind - 10)
-  section-late g h l = record { is = simp (le-ltb kind 2 g, le-ltb kind 13 h) at (section-by kind l) }
+  pub section-of : {b : List ℕ} {r : ℕ} → kindsIn b 16 ≡ kinds → kind < 16 → Byte b (17 * kind + 8) r → Section kind r
+  unfolding sectionOf
+  section-of {b} e h y = record {
+    is =
+        let z : kind ≡ 0 + kind = omega arith in
+        y .is ∙ ap (λ (k : ℕ). cell b (17 * k + 8)) z ∙ ap (λ (k : Kind). k .section) (sym (run-getD (kindAt b) 0 16 kind noKind h)) ∙ ap (λ (ks : List Kind). getD ks kind noKind .section) e;
+  }
 
   pub section-none : 16 ≤ kind → Section kind 0
   unfolding sectionOf
@@ -76,13 +57,9 @@ module _ {t : Table} {s : ℕ} where
           pub count-5 : (s ≡ 4 → ⊥) → Counted t s (record { names = t .names; entries = t .entries; pairs = t .pairs; marks = t .marks; roots = t .roots + 1 })
           count-5 n4 = record { is = simp (ne-eqb s 0 n0, ne-eqb s 1 n1, ne-eqb s 2 n2, ne-eqb s 3 n3, ne-eqb s 4 n4) }
 
--- a test that was passed is not failed
-never : {A : Type 0} → true ≡ false → A
-never e = absurd (let z : _≡_ {A = ℕ} 0 1 = cc in omega arith)
-
 module _ {t : Table} {s size : ℕ} where
   pub names-many : 1024 < t .names → NamesOver 1024 255 t s size true
-  names-many h = record { is = simp (lt-ltb 1024 (t .names) h); few = λ q. never q }
+  names-many h = record { is = simp (lt-ltb 1024 (t .names) h); few = λ q. true-false q }
 
   pub names-long : t .names ≤ 1024 → s ≡ 1 → NamesOver 1024 255 t s size (ltb 255 size)
   names-long h e = record { is = simp (le-ltb 1024 (t .names) h, eq-eqb s 1 e); few = λ q. h }
@@ -92,17 +69,17 @@ module _ {t : Table} {s size : ℕ} where
 
 module _ {t : Table} {ids : ℕ} where
   pub entries-many : 2048 < t .entries → EntriesOver 2048 8192 t ids true
-  entries-many h = record { is = simp (lt-ltb 2048 (t .entries) h); few = λ q. never q; few-ids = λ q. never q }
+  entries-many h = record { is = simp (lt-ltb 2048 (t .entries) h); few = λ q. true-false q; few-ids = λ q. true-false q }
 
   pub entries-fine : t .entries ≤ 2048 → EntriesOver 2048 8192 t ids (ltb 8192 ids)
   entries-fine h = record { is = simp (le-ltb 2048 (t .entries) h); few = λ q. h; few-ids = λ q. ltb-false 8192 ids q }
 
 module _ {t : Table} where
   pub pairs-many : 2048 < t .pairs → RestOver 2048 512 64 t true
-  pairs-many h = record { is = simp (lt-ltb 2048 (t .pairs) h); few-pairs = λ q. never q; few-marks = λ q. never q; few-roots = λ q. never q }
+  pairs-many h = record { is = simp (lt-ltb 2048 (t .pairs) h); few-pairs = λ q. true-false q; few-marks = λ q. true-false q; few-roots = λ q. true-false q }
 
   pub marks-many : t .pairs ≤ 2048 → 512 < t .marks → RestOver 2048 512 64 t true
-  marks-many g h = record { is = simp (le-ltb 2048 (t .pairs) g, lt-ltb 512 (t .marks) h); few-pairs = λ q. never q; few-marks = λ q. never q; few-roots = λ q. never q }
+  marks-many g h = record { is = simp (le-ltb 2048 (t .pairs) g, lt-ltb 512 (t .marks) h); few-pairs = λ q. true-false q; few-marks = λ q. true-false q; few-roots = λ q. true-false q }
 
   pub rest-fine : t .pairs ≤ 2048 → t .marks ≤ 512 → RestOver 2048 512 64 t (ltb 64 (t .roots))
   rest-fine g h = record { is = simp (le-ltb 2048 (t .pairs) g, le-ltb 512 (t .marks) h); few-pairs = λ q. g; few-marks = λ q. h; few-roots = λ q. ltb-false 64 (t .roots) q }
@@ -126,7 +103,7 @@ entries-then t ids y b = ap (λ (u : Bool). if u (λ _. true) (λ _. restBy t)) 
 
 module _ {t : Table} {ids s size : ℕ} {x : Bool} (a : NamesOver 1024 255 t s size x) where
   pub over-names : x ≡ true → Over t ids s size true
-  over-names h = record { is = ap (λ (u : Bool). if u (λ _. true) (λ _. tailBy t ids)) (sym h) ∙ names-then t ids s size x a; few = λ q. never q; few-ids = λ q. never q }
+  over-names h = record { is = ap (λ (u : Bool). if u (λ _. true) (λ _. tailBy t ids)) (sym h) ∙ names-then t ids s size x a; few = λ q. true-false q; few-ids = λ q. true-false q }
 
   module _ {y : Bool} (h : x ≡ false) (b : EntriesOver 2048 8192 t ids y) where
     pub over-entries : y ≡ true → Over t ids s size true
@@ -136,8 +113,8 @@ module _ {t : Table} {ids s size : ℕ} {x : Bool} (a : NamesOver 1024 255 t s s
           ∙ entries-then t ids y b
           ∙ ap (λ (u : Bool). if u (λ _. true) (λ _. tailBy t ids)) (sym h)
           ∙ names-then t ids s size x a;
-      few = λ q. never q;
-      few-ids = λ q. never q;
+      few = λ q. true-false q;
+      few-ids = λ q. true-false q;
     }
 
     pub over-rest : {z : Bool} → y ≡ false → RestOver 2048 512 64 t z → Over t ids s size z

@@ -16,7 +16,7 @@ use Rattle.rules.specs.Table as rules
 use Rattle.table.specs.declared.Table.{Table}
 use Rattle.table.specs.declared.Answer.{Answer}
 use Rattle.table.specs.declared.Answer.the-variants.{Accepted, Refused}
-use Rattle.table.specs.Rows.{beginAt, Few, rowAt, bare, tableFrom, outcome, Laid, LaidBy, Apart, Started, Lines, unless, Kept, EntriesKnown, RootsKnown, Known, ReadInto}
+use Rattle.table.specs.Rows.{beginAt, Few, rowAt, bare, tableFrom, outcome, Laid, LaidBy, Apart, Started, Lines, passing, Kept, EntriesKnown, RootsKnown, Known, ReadInto}
 use Rattle.table.proofs.Admitting.{bare-length}
 use Rattle.table.proofs.Knowing.{entryTest, rootTest, rootRow}
 
@@ -40,7 +40,7 @@ pub read-few : {text w w′ : List ℕ} {a : Answer} {t : Table} → Lines text 
 read-few {text} {w} {w′} {a} {t} h e = let l : Laid t w′ = subst (λ (r : Answer). LaidBy r w′) e (h .laid) in l .few
 
 -- the ranges, by the counts
-pub in-table : (t : Table) (w : List ℕ) → inTable (tableFrom t w) ≡ then (known (entryTest t) (2 + t .names) (run (rowAt w) (1 + t .names) (t .entries))) (λ _. unless (known (rootTest t) (2 + t .names + t .entries + t .pairs + t .marks) (bare (run (rowAt w) (rootRow t) (t .roots)))) t w)
+in-table : (t : Table) (w : List ℕ) → inTable (tableFrom t w) ≡ then (known (entryTest t) (2 + t .names) (run (rowAt w) (1 + t .names) (t .entries))) (λ _. passing (known (rootTest t) (2 + t .names + t .entries + t .pairs + t .marks) (bare (run (rowAt w) (rootRow t) (t .roots)))) t w)
 unfolding inTable tableFrom
 in-table t w =
     let names = bare-length w 1 (t .names) in
@@ -49,30 +49,30 @@ in-table t w =
     let marks = bare-length w (1 + t .names + t .entries + t .pairs) (t .marks) in
     λ i.
     then (known (λ (row : List ℕ). inRange (entries i) (names i) (entryOf row)) (2 + names i) (run (rowAt w) (1 + t .names) (t .entries)))
-    (λ _. unless (known (λ (row : List ℕ). ltb (cell row 0) (entries i)) (2 + names i + entries i + pairs i + marks i) (bare (run (rowAt w) (rootRow t) (t .roots)))) t w)
+    (λ _. passing (known (λ (row : List ℕ). ltb (cell row 0) (entries i)) (2 + names i + entries i + pairs i + marks i) (bare (run (rowAt w) (rootRow t) (t .roots)))) t w)
 
 module _ {w : List ℕ} {t : Table} {b : Answer} (x : EntriesKnown w t b) where
-  refused-by : (m : Result (Unit {0})) (z : Result rules.Sections) {k l : ℕ} → refused k l ≡ unless m t w → refused k l ≡ then m (λ _. z)
+  refused-by : (m : Result (Unit {0})) (z : Result rules.Sections) {k l : ℕ} → refused k l ≡ passing m t w → refused k l ≡ then m (λ _. z)
   refused-by (accepted u) z q = absurd (let y : _≡_ {A = ℕ} 0 1 = cc in omega arith)
   refused-by (refused i j) z q = cc
 
   pub known-no : {k l : ℕ} → b ≡ Refused k l → Known w t (Refused k l)
   known-no {k} {l} q = record {
     is =
-        refused-by (known (entryTest t) (2 + t .names) (run (rowAt w) (1 + t .names) (t .entries))) (unless (known (rootTest t) (2 + t .names + t .entries + t .pairs + t .marks) (bare (run (rowAt w) (rootRow t) (t .roots)))) t w)
+        refused-by (known (entryTest t) (2 + t .names) (run (rowAt w) (1 + t .names) (t .entries))) (passing (known (rootTest t) (2 + t .names + t .entries + t .pairs + t .marks) (bare (run (rowAt w) (rootRow t) (t .roots)))) t w)
         (ap (λ (r : Answer). outcome r w) (sym q) ∙ x .is)
         ∙ sym (in-table t w);
     kept = tt;
   }
 
-  accepted-by : (m : Result (Unit {0})) (y z : Result rules.Sections) {v : rules.Sections} → y ≡ z → accepted v ≡ unless m t w → y ≡ then m (λ _. z)
+  accepted-by : (m : Result (Unit {0})) (y z : Result rules.Sections) {v : rules.Sections} → y ≡ z → accepted v ≡ passing m t w → y ≡ then m (λ _. z)
   accepted-by (accepted u) y z p q = p
   accepted-by (refused i j) y z p q = absurd (let y : _≡_ {A = ℕ} 0 1 = cc in omega arith)
 
   pub known-yes : {u : Table} {r : Answer} → b ≡ Accepted u → RootsKnown w t r → Known w t r
   known-yes {u} {r} q y = record {
     is =
-        accepted-by (known (entryTest t) (2 + t .names) (run (rowAt w) (1 + t .names) (t .entries))) (outcome r w) (unless (known (rootTest t) (2 + t .names + t .entries + t .pairs + t .marks) (bare (run (rowAt w) (rootRow t) (t .roots)))) t w)
+        accepted-by (known (entryTest t) (2 + t .names) (run (rowAt w) (1 + t .names) (t .entries))) (outcome r w) (passing (known (rootTest t) (2 + t .names + t .entries + t .pairs + t .marks) (bare (run (rowAt w) (rootRow t) (t .roots)))) t w)
         (y .is)
         (ap (λ (r : Answer). outcome r w) (sym q) ∙ x .is)
         ∙ sym (in-table t w);

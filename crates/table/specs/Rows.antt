@@ -14,6 +14,7 @@ use Rattle.rules.specs.Table.{stageAfter, frozenEntry, Reading, nothing, Admiss
 use Rattle.rules.specs.Table.{known, inTable, sectionsOf}
 use Rattle.rules.specs.Table as rules
 use Rattle.text.specs.Reads.{span}
+use Rattle.text.specs.Keywords.{Slots, kindsIn}
 use Rattle.layout.specs.Layout.{rowsAt, tableWords, tableLength}
 use Rattle.table.specs.declared.Table.{Table}
 use Rattle.table.specs.declared.rows.Places.{Places}
@@ -313,6 +314,11 @@ pub record Ready (text : List ℕ) (from to : ℕ) (w : List ℕ) (p : Progress)
   pub low : p .top ≤ tableWords + from
   pub room : tableLength ≤ length w
 
+-- b has the kinds of a table's lines
+pub record Kinds (b : List ℕ) : Type 0 where
+  pub slots : Slots b 16
+  pub are : kindsIn b 16 ≡ rules.kinds
+
 -- q is p with one row more
 pub record Went (p : Progress) (to : ℕ) (w : List ℕ) (q : Progress) : Type 0 where
   pub fine : Fine q
@@ -355,8 +361,8 @@ pub record EntryKnown (w : List ℕ) (from to n names : ℕ) (r : Bool) : Type 0
   pub is : r ≡ inRange n names (entryOf (span w from to))
 
 -- the table, where every row passes the test
-abbrev pub unless : Result (Unit {0}) → Table → List ℕ → Result rules.Sections
-unless m t w = then m (λ _. accepted (tableFrom t w))
+abbrev pub passing : Result (Unit {0}) → Table → List ℕ → Result rules.Sections
+passing m t w = then m (λ _. accepted (tableFrom t w))
 
 -- an answer that accepts is of the table asked for
 abbrev pub Kept : Table → Answer → Type 0
@@ -364,11 +370,11 @@ Kept t (Accepted u) = u ≡ t
 Kept t (Refused k l) = Unit {0}
 
 pub record EntriesKnown (w : List ℕ) (t : Table) (r : Answer) : Type 0 where
-  pub is : outcome r w ≡ unless (known (λ (row : List ℕ). inRange (t .entries) (t .names) (entryOf row)) (2 + t .names) (run (rowAt w)
+  pub is : outcome r w ≡ passing (known (λ (row : List ℕ). inRange (t .entries) (t .names) (entryOf row)) (2 + t .names) (run (rowAt w)
       (1 + t .names) (t .entries))) t w
 
 pub record RootsKnown (w : List ℕ) (t : Table) (r : Answer) : Type 0 where
-  pub is : outcome r w ≡ unless (known (λ (row : List ℕ). ltb (cell row 0) (t .entries)) (2 + t .names + t .entries + t .pairs + t .marks) (bare
+  pub is : outcome r w ≡ passing (known (λ (row : List ℕ). ltb (cell row 0) (t .entries)) (2 + t .names + t .entries + t .pairs + t .marks) (bare
       (run (rowAt w) (1 + t .names + t .entries + t .pairs + t .marks) (t .roots)))) t w
   pub kept : Kept t r
 

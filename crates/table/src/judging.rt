@@ -9,11 +9,13 @@ use crate::rows::begin;
 use crate::rows::places_of;
 use layout::TableSlice;
 use text::Got;
+use text::kinds;
+use text::kinds::TABLE;
 ghost use Prim.Native.Nat.{_<_, _≤_};
 ghost use lib.ListN.{length};
 ghost use Rattle.layout.specs.Layout.{tableLength};
 ghost use Rattle.rules.specs.Ceilings.{mostText};
-ghost use Rattle.table.specs.Rows.{Section, PlainWeight, Weight, KeysAscend, Few, Counted, NamesOver, EntriesOver, RestOver, Over, InOrder, NameAscends, Ascends, RowWeight, Size, StageAfter, Fine, Advanced, Judged, Unread, Begun, Started, Ready, Lined, Lines};
+ghost use Rattle.table.specs.Rows.{Section, PlainWeight, Weight, KeysAscend, Few, Counted, NamesOver, EntriesOver, RestOver, Over, InOrder, NameAscends, Ascends, RowWeight, Size, StageAfter, Fine, Advanced, Judged, Unread, Begun, Started, Ready, Kinds, Lined, Lines};
 
 // What was read so far: the section that a line may still be of (0 before the budget line), the rows, where the last ends.
 pub struct Progress {
@@ -31,23 +33,17 @@ pub enum Verdict {
 }
 
 // The section of a kind: 0 budget, 1 names, 2 entries, 3 pairs, 4 marks, 5 roots. There is none from 16 on.
-pub fn section_of(kind: u32) -> u32
+fn section_of(kind: u32) -> u32
     ensures { λ r. ⌜ Section kind r ⌝ }
 {
-    if kind < 2 {
-        return kind;
-    }
-    if kind < 13 {
-        return 2;
-    }
     if kind < 16 {
-        return kind - 10;
+        return kinds::at(&TABLE, 17 * kind as usize + 8) as u32;
     }
     0
 }
 
 // The ids and keys of an entry of a kind whose row is no list.
-pub fn plain_weight(kind: u32) -> usize
+fn plain_weight(kind: u32) -> usize
     ensures { λ r. ⌜ PlainWeight kind r ⌝ }
 {
     if kind == 5 {
@@ -72,7 +68,7 @@ pub fn plain_weight(kind: u32) -> usize
 }
 
 // The ids and keys of the entry whose row stands between from and to.
-pub fn weight_of(words: &[u32], from: usize, to: usize) -> usize
+fn weight_of(words: &[u32], from: usize, to: usize) -> usize
     ensures { λ r. ⌜ Weight (now (words .entry)) from to r ⌝ }
 {
     let kind = at(words, from, to, 0);
@@ -89,7 +85,7 @@ pub fn weight_of(words: &[u32], from: usize, to: usize) -> usize
 }
 
 // Whether the keys of a set ascend, and its optional keys.
-pub fn keys_ascend(words: &[u32], from: usize, to: usize) -> bool
+fn keys_ascend(words: &[u32], from: usize, to: usize) -> bool
     ensures { λ r. ⌜ KeysAscend (now (words .entry)) from to r ⌝ }
 {
     if at(words, from, to, 0) != 7 {
@@ -103,7 +99,7 @@ pub fn keys_ascend(words: &[u32], from: usize, to: usize) -> bool
 }
 
 // The counts with one row more of section s.
-pub fn counted(t: Table, s: u32) -> Table
+fn counted(t: Table, s: u32) -> Table
     requires { ⌜ Few t ⌝ }
     ensures { λ r. ⌜ Counted t s r ⌝ }
 {
@@ -132,7 +128,7 @@ pub fn counted(t: Table, s: u32) -> Table
 }
 
 // Whether there are too many names, or this row of section s is a name of too many bytes.
-pub fn names_over(t: Table, s: u32, size: usize) -> bool
+fn names_over(t: Table, s: u32, size: usize) -> bool
     ensures { λ r. do ⌜ NamesOver (← ⟦Table::NAMES⟧ .entry) (← ⟦Table::LONGEST_NAME⟧ .entry) t s size r ⌝ }
 {
     if Table::NAMES < t.names {
@@ -145,7 +141,7 @@ pub fn names_over(t: Table, s: u32, size: usize) -> bool
 }
 
 // Whether there are too many entries, or too many ids and keys in them.
-pub fn entries_over(t: Table, ids: usize) -> bool
+fn entries_over(t: Table, ids: usize) -> bool
     ensures { λ r. do ⌜ EntriesOver (← ⟦Table::ENTRIES⟧ .entry) (← ⟦Table::IDS⟧ .entry) t ids r ⌝ }
 {
     if Table::ENTRIES < t.entries {
@@ -155,7 +151,7 @@ pub fn entries_over(t: Table, ids: usize) -> bool
 }
 
 // Whether there are too many pairs, marks or roots.
-pub fn rest_over(t: Table) -> bool
+fn rest_over(t: Table) -> bool
     ensures { λ r. do ⌜ RestOver (← ⟦Table::PAIRS⟧ .entry) (← ⟦Table::MARKS⟧ .entry) (← ⟦Table::ROOTS⟧ .entry) t r ⌝ }
 {
     if Table::PAIRS < t.pairs {
@@ -168,7 +164,7 @@ pub fn rest_over(t: Table) -> bool
 }
 
 // Whether a ceiling is passed, by a row of section s that has size words after its kind.
-pub fn over(t: Table, ids: usize, s: u32, size: usize) -> bool
+fn over(t: Table, ids: usize, s: u32, size: usize) -> bool
     ensures { λ r. ⌜ Over t ids s size r ⌝ }
 {
     if names_over(t, s, size) {
@@ -181,7 +177,7 @@ pub fn over(t: Table, ids: usize, s: u32, size: usize) -> bool
 }
 
 // Whether a row of section s may follow; the budget line is the first and the only one of its section.
-pub fn in_order(stage: u32, s: u32) -> bool
+fn in_order(stage: u32, s: u32) -> bool
     ensures { λ r. ⌜ InOrder stage s r ⌝ }
 {
     if stage == 0 {
@@ -191,7 +187,7 @@ pub fn in_order(stage: u32, s: u32) -> bool
 }
 
 // Whether the name whose row ends at to comes after the last one.
-pub fn name_ascends(p: Progress, table: &[u32], to: usize) -> bool
+fn name_ascends(p: Progress, table: &[u32], to: usize) -> bool
     requires { ⌜ Fine p ⌝ }
     ensures { λ r. ⌜ NameAscends p (now (table .entry)) to r ⌝ }
 {
@@ -203,7 +199,7 @@ pub fn name_ascends(p: Progress, table: &[u32], to: usize) -> bool
 }
 
 // Whether the name, or the keys, of the row of section s that ends at to ascend.
-pub fn ascends(p: Progress, table: &[u32], to: usize, s: u32) -> bool
+fn ascends(p: Progress, table: &[u32], to: usize, s: u32) -> bool
     requires { ⌜ Fine p ⌝ }
     ensures { λ r. ⌜ Ascends p (now (table .entry)) to s r ⌝ }
 {
@@ -217,7 +213,7 @@ pub fn ascends(p: Progress, table: &[u32], to: usize, s: u32) -> bool
 }
 
 // The ids and keys of a row of section s: only entries have any.
-pub fn row_weight(words: &[u32], from: usize, to: usize, s: u32) -> usize
+fn row_weight(words: &[u32], from: usize, to: usize, s: u32) -> usize
     ensures { λ r. ⌜ RowWeight (now (words .entry)) from to s r ⌝ }
 {
     if s == 2 {
@@ -227,7 +223,7 @@ pub fn row_weight(words: &[u32], from: usize, to: usize, s: u32) -> usize
 }
 
 // How many words a row has after its kind.
-pub fn size_of(from: usize, to: usize) -> usize
+fn size_of(from: usize, to: usize) -> usize
     ensures { λ r. ⌜ Size from to r ⌝ }
 {
     if to <= from {
@@ -237,7 +233,7 @@ pub fn size_of(from: usize, to: usize) -> usize
 }
 
 // The section that a line may be of after one of section s.
-pub fn stage_after(s: u32) -> u32
+fn stage_after(s: u32) -> u32
     ensures { λ r. ⌜ StageAfter s r ⌝ }
 {
     if s == 0 {
@@ -247,7 +243,7 @@ pub fn stage_after(s: u32) -> u32
 }
 
 // What was read, with one row more, of section s, with ids ids and keys, that ends at to.
-pub fn advance(p: Progress, s: u32, ids: usize, to: usize) -> Progress
+fn advance(p: Progress, s: u32, ids: usize, to: usize) -> Progress
     requires { ⌜ Fine p ⌝ }
     requires { ⌜ ids < 68719476736 ⌝ }
     ensures { λ r. ⌜ Advanced p s ids to r ⌝ }
@@ -264,7 +260,7 @@ pub fn advance(p: Progress, s: u32, ids: usize, to: usize) -> Progress
 }
 
 // What is said of the row that ends at to: 1, 2, 4, 5 in that order, or that it is taken.
-pub fn judge(p: Progress, table: &[u32], to: usize) -> Verdict
+fn judge(p: Progress, table: &[u32], to: usize) -> Verdict
     requires { ⌜ Fine p ⌝ }
     ensures { λ r. ⌜ Judged p (now (table .entry)) to r ⌝ }
 {
@@ -288,17 +284,19 @@ pub fn judge(p: Progress, table: &[u32], to: usize) -> Verdict
 }
 
 // The line between from and to: its row is written and judged, and kept if it is taken.
-pub fn line(
+fn line(
     text: &[u8],
     from: usize,
     to: usize,
+    forms: &[u8],
     table: &mut [u32],
     p: Progress,
 ) -> Verdict
     requires { ⌜ Ready (now text) from to (now table) p ⌝ }
+    requires { ⌜ Kinds (now forms) ⌝ }
     ensures { λ r. ⌜ Lined (now (text .entry)) from to p (now (table .entry)) (now (table .exit)) r ⌝ }
 {
-    let Got::To(t) = row_of(text, from, to, table, p.top) else {
+    let Got::To(t) = row_of(text, from, to, forms, table, p.top) else {
         return Verdict::Fault(1);
     };
     match judge(p, table, t) {
@@ -311,7 +309,7 @@ pub fn line(
 }
 
 // Nothing read yet.
-pub fn unread() -> Progress
+fn unread() -> Progress
     ensures { λ r. ⌜ Unread r ⌝ }
 {
     Progress {
@@ -346,12 +344,13 @@ pub fn lines_of(text: &[u8], table: &mut [u32]) -> Answer
     let n = text.len();
     let mut from = 0;
     let mut p = unread();
+    let forms = TABLE;
     while from < n {
         let e = text::seek(text, from, n, 10);
         if e == n {
             return Answer::Refused(1, (p.lines + 1) as u32);
         }
-        match line(text, from, e, table, p) {
+        match line(text, from, e, &forms, table, p) {
             Verdict::Fault(k) => {
                 return Answer::Refused(k, (p.lines + 1) as u32);
             }

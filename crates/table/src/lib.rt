@@ -3,6 +3,7 @@ pub mod judging;
 pub mod kinds;
 pub mod ranges;
 pub mod rows;
+
 ghost use Prim.Native.Nat.{_≤_};
 ghost use lib.ListN.{length};
 ghost use Rattle.layout.specs.Layout.{tableLength};

@@ -9,7 +9,7 @@ use crate::rows::places_of;
 ghost use Rattle.table.specs.Rows.{Placed, Few, VarKnown, SetKnown, KeysKnown, NamedKnown, PlainKnown, EntryKnown, EntriesKnown, RootsKnown, Known};
 
 // Whether the ids of a variable's bounds are below n.
-pub fn var_known(words: &[u32], from: usize, to: usize, n: usize) -> bool
+fn var_known(words: &[u32], from: usize, to: usize, n: usize) -> bool
     ensures { λ r. ⌜ VarKnown (now (words .entry)) from to n r ⌝ }
 {
     let a = at(words, from, to, 1) as usize;
@@ -43,7 +43,7 @@ pub fn keys_known(words: &[u32], from: usize, to: usize, p: Places, names: usize
 }
 
 // Whether a Named's id is below n and its name below names.
-pub fn named_known(words: &[u32], from: usize, to: usize, n: usize, names: usize) -> bool
+fn named_known(words: &[u32], from: usize, to: usize, n: usize, names: usize) -> bool
     ensures { λ r. ⌜ NamedKnown (now (words .entry)) from to n names r ⌝ }
 {
     if below(words, from, to, 2, 1, 1, n) {
@@ -53,7 +53,7 @@ pub fn named_known(words: &[u32], from: usize, to: usize, n: usize, names: usize
 }
 
 // Whether the ids and names of an entry are in range, for the kinds whose row is no list.
-pub fn plain_known(words: &[u32], from: usize, to: usize, kind: u32, n: usize, names: usize) -> bool
+fn plain_known(words: &[u32], from: usize, to: usize, kind: u32, n: usize, names: usize) -> bool
     ensures { λ r. ⌜ PlainKnown (now (words .entry)) from to kind n names r ⌝ }
 {
     if kind == 5 {
@@ -78,7 +78,7 @@ pub fn plain_known(words: &[u32], from: usize, to: usize, kind: u32, n: usize, n
 }
 
 // Whether the ids and names of the entry whose row stands between from and to are in range.
-pub fn entry_known(words: &[u32], from: usize, to: usize, n: usize, names: usize) -> bool
+fn entry_known(words: &[u32], from: usize, to: usize, n: usize, names: usize) -> bool
     ensures { λ r. ⌜ EntryKnown (now (words .entry)) from to n names r ⌝ }
 {
     let kind = at(words, from, to, 0);
@@ -96,7 +96,7 @@ pub fn entry_known(words: &[u32], from: usize, to: usize, n: usize, names: usize
 }
 
 // Refusal 3 at the first entry that is not in range.
-pub fn entries_known(table: &[u32], t: Table) -> Answer
+fn entries_known(table: &[u32], t: Table) -> Answer
     requires { ⌜ Few t ⌝ }
     ensures { λ r. ⌜ EntriesKnown (now (table .entry)) t r ⌝ }
 {
@@ -114,7 +114,7 @@ pub fn entries_known(table: &[u32], t: Table) -> Answer
 }
 
 // Refusal 3 at the first root whose id is not below the entry count.
-pub fn roots_known(table: &[u32], t: Table) -> Answer
+fn roots_known(table: &[u32], t: Table) -> Answer
     requires { ⌜ Few t ⌝ }
     ensures { λ r. ⌜ RootsKnown (now (table .entry)) t r ⌝ }
 {

@@ -103,7 +103,7 @@ pub struct Places {
 }
 
 // 0 of 0, and 1 of any other number.
-pub fn present(x: usize) -> usize
+fn present(x: usize) -> usize
     ensures { λ r. ⌜ Present x r ⌝ }
 {
     if x == 0 {

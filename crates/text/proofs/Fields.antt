@@ -14,7 +14,7 @@ use Rattle.text.specs.declared.Num.{Num}
 use Rattle.text.specs.declared.Num.the-variants.{No, Is}
 use Rattle.text.specs.declared.Got.{Got}
 use Rattle.text.specs.declared.Got.the-variants.{Bad, To}
-use Rattle.text.specs.Reads.{span, numOf, Number, Word, Room, FieldRoom, Element, Listed, Bounded, Dyned, Signed, Named, Field}
+use Rattle.text.specs.Reads.{span, numOf, Number, Word, FieldRoom, Element, Listed, Bounded, Dyned, Signed, Named, Field}
 use Rattle.text.proofs.Leaves.{number-some}
 use Rattle.text.proofs.Lists.{wrote-at, wrote-none, wrote-one, wrote-two}
 use mathlib.Core.Option.{Option, some}
@@ -72,9 +72,6 @@ module _ {s : List ℕ} {from to top : ℕ} {w : List ℕ} {b : Bool} (room : Fi
     sign-bad q = record { wrote = wrote-none (simp (sym (h .is) ∙ e, sym (k .is) ∙ q)) }
 
 -- a field
-pub field-room : {s : List ℕ} {from to top : ℕ} {w : List ℕ} → FieldRoom s from to w top → Room s from to w top
-field-room h = record { order = h .order; within = h .within; room = omega (arith, h .room) }
-
 module _ {s : List ℕ} {from to kind top : ℕ} {w w′ : List ℕ} {r : Got} where
   pub field-number : kind ≡ 0 → Element s from to 1 top w w′ r → Field s from to kind top w w′ r
   unfolding fieldOf

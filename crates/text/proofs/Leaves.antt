@@ -1,19 +1,19 @@
 -- Digits, numbers, and the search for a separator, step by step. Assumes nothing.
-use mathlib.Core.Path.{_≡_, refl, sym, ap, ap₂, _∙_}
-use mathlib.Core.Bool.{true, false}
+use mathlib.Core.Path.{_≡_, refl, sym, ap, _∙_}
+use mathlib.Core.Bool.{Bool, true, false}
 use Prim.Native.Nat.{ℕ, _+_, _-_, _*_, _≤_, _<_}
 use native.Mathlib.Omega.{arith}
-use mathlib.Core.List.{List, [], _∷_}
-use lib.ListN.{length}
+use mathlib.Core.List.{List, [], _∷_, _++_}
+use lib.Dec.{eqb}
 use borrow.Author.Tests.{lt-ltb, le-ltb, eq-eqb, ne-eqb}
-use Rattle.cells.specs.Part.{cell, eqList}
-use Rattle.cells.proofs.Parts.{eqList-same, eqList-other}
+use Rattle.cells.specs.Part.{cell, if}
+use Rattle.cells.proofs.Parts.{eqList-same, eqList-other, eqList-longer}
 use Rattle.rules.specs.Plain.{_>>=_}
 use Rattle.rules.specs.Text.{cut, pieces, digit, digits, number}
 use Rattle.text.specs.declared.Num.{Num}
 use Rattle.text.specs.declared.Num.the-variants.{No, Is}
 use Rattle.text.specs.Reads.{span, numOf, Digit, Digits, Number, Word, Seek}
-use Rattle.text.proofs.Spans.{span-none, span-next, span-snoc, span-whole}
+use Rattle.text.proofs.Spans.{span-none, span-next, span-snoc, span-length}
 use mathlib.Core.Option.{Option, none, some}
 
 module _ {v b : ℕ} where
@@ -82,6 +82,15 @@ module _ {s : List ℕ} {from to : ℕ} where
   unfolding number
   number-one h k p = record { is = p .is ∙ rw (one s from to h k) }
 
+-- a cut is of some pieces
+cut-if : (P : List (List ℕ) → Type 0) (q r : List (List ℕ)) (t : Bool) → P q → P r → P (if t (λ _. q) (λ _. r))
+cut-if P q r true h k = h
+cut-if P q r false h k = k
+
+pub cut-some : (P : List (List ℕ) → Type 0) → ((p : List ℕ) (ps : List (List ℕ)) → P (p ∷ ps)) → (sep : ℕ) (got x : List ℕ) → P (cut sep got x)
+cut-some P f sep got [] = f got []
+cut-some P f sep got (b ∷ bs) = cut-if P (got ∷ cut sep [] bs) (cut sep (got ++ (b ∷ [])) bs) (eqb b sep) (f got (cut sep [] bs)) (cut-some P f sep (got ++ (b ∷ [])) bs)
+
 -- the search: what was passed is the piece so far
 pub record Seeking (s : List ℕ) (from to sep i : ℕ) : Type 0 where
   pub low : from ≤ i
@@ -109,6 +118,7 @@ module _ {s : List ℕ} {from to sep : ℕ} where
     seek-found h e = record {
       low = inv .low;
       high = omega arith;
+      found = λ _. e;
       here = λ _. turn h ∙ simp (eq-eqb (cell s i) sep e);
       last = λ q. absurd (let z : ⊥ = omega arith in z);
     }
@@ -117,6 +127,7 @@ module _ {s : List ℕ} {from to sep : ℕ} where
     seek-none h = record {
       low = inv .low;
       high = inv .high;
+      found = λ q. absurd (let z : ⊥ = omega arith in z);
       here = λ q. absurd (let z : ⊥ = omega arith in z);
       last = λ _. inv .is ∙ ap (cut sep (span s from i)) (span-none s i to h);
     }
@@ -128,27 +139,14 @@ number-some {s} {from} {to} h e le =
     let p : some _ ≡ none = sym (ap numOf e) ∙ h .is ∙ ap number (span-none s from to le) in
     let z : _≡_ {A = ℕ} 0 1 = cc in omega arith
 
--- two spans compared: what is left says the same as the whole
-pub record Matching (s : List ℕ) (from to : ℕ) (w : List ℕ) (i k : ℕ) : Type 0 where
-  pub is : eqList (span s i to) (span w k (length w)) ≡ eqList (span s from to) w
+-- one byte alone
+module _ {s : List ℕ} {from to b : ℕ} where
+  pub mark-longer : (to - from ≡ 1 → ⊥) → Word s from to (b ∷ []) false
+  mark-longer h = record { is = sym (eqList-longer (span s from to) (b ∷ []) (λ e. h (sym (span-length s from to) ∙ e))) }
 
-module _ {s : List ℕ} {from to : ℕ} {w : List ℕ} where
-  pub match-start : Matching s from to w from 0
-  match-start = record { is = ap (eqList (span s from to)) (span-whole w) }
+  module _ (h : to - from ≡ 1) where
+    pub mark-other : (cell s from ≡ b → ⊥) → Word s from to (b ∷ []) false
+    mark-other e = record { is = rw (one s from to (omega arith) (omega arith)) (sym (eqList-other (cell s from) b [] [] e)) }
 
-  module _ {i k : ℕ} (inv : Matching s from to w i k) (lt : k < length w) where
-    pub match-short : to ≤ i → Word s from to w false
-    match-short h = record { is = rw (span-none s i to h, span-next w k (length w) lt) at (inv .is) }
-
-    pub match-other : i < to → (cell s i ≡ cell w k → ⊥) → Word s from to w false
-    match-other h e = record { is = sym (ap₂ eqList (span-next s i to h) (span-next w k (length w) lt) ∙ eqList-other (cell s i) (cell w k) (span s (i + 1) to) (span w (k + 1) (length w)) e) ∙ inv .is }
-
-    pub match-more : i < to → cell s i ≡ cell w k → Matching s from to w (i + 1) (k + 1)
-    match-more h e = record { is = sym (ap₂ eqList (span-next s i to h) (span-next w k (length w) lt) ∙ eqList-same (cell s i) (cell w k) (span s (i + 1) to) (span w (k + 1) (length w)) e) ∙ inv .is }
-
-  module _ {i k : ℕ} (inv : Matching s from to w i k) (le : length w ≤ k) where
-    pub match-long : i < to → Word s from to w false
-    match-long h = record { is = rw (span-next s i to h, span-none w k (length w) le) at (inv .is) }
-
-    pub match-done : to ≤ i → Word s from to w true
-    match-done h = record { is = rw (span-none s i to h, span-none w k (length w) le) at (inv .is) }
+    pub mark-same : cell s from ≡ b → Word s from to (b ∷ []) true
+    mark-same e = record { is = rw (one s from to (omega arith) (omega arith)) (sym (eqList-same (cell s from) b [] [] e)) }

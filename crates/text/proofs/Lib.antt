@@ -1,4 +1,4 @@
--- Lemmas, from the spans up; a reader of other kinds cites Shaping.
+-- Lemmas, from the spans up.
 pub mod Spans
 pub mod Follow
 pub mod Leaves
@@ -6,3 +6,4 @@ pub mod Naming
 pub mod Lists
 pub mod Fields
 pub mod Shaping
+pub mod Keywords

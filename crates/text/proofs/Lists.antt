@@ -8,11 +8,9 @@ use native.Mathlib.Numerals.{lt-of-le-of-ne}
 use mathlib.Core.Logic.{⊎-elim}
 use mathlib.Core.List.{List, [], _∷_, _++_, append-nil}
 use lib.ListN.{length, set, length-set}
-use lib.Dec.{eqb}
 use borrow.Author.Tests.{eq-eqb, ne-eqb}
-use Rattle.cells.specs.Part.{if}
 use Rattle.rules.specs.Plain.{_>>=_}
-use Rattle.rules.specs.Text.{cut, pieces, number, elements, counted, listOf, keyed}
+use Rattle.rules.specs.Text.{pieces, number, elements, counted, listOf, keyed}
 use Rattle.text.specs.declared.Num.{Num}
 use Rattle.text.specs.declared.Num.the-variants.{No, Is}
 use Rattle.text.specs.declared.Got.{Got}
@@ -20,7 +18,7 @@ use Rattle.text.specs.declared.Got.the-variants.{Bad, To}
 use Rattle.text.specs.Reads.{span, numOf, Number, Word, Room, FieldRoom, Seek, Above, Ends, gotWords, Wrote, Keyed, elementOf, Element, Elements, Listed}
 use Rattle.text.proofs.Spans.{span-none, span-same, span-append, span-length, span-put, span-one, span-two, above-none, above-set, above-over}
 use Rattle.text.proofs.Follow.{follow, follow-nil, follow-more}
-use Rattle.text.proofs.Leaves.{number-some}
+use Rattle.text.proofs.Leaves.{cut-some, number-some}
 use mathlib.Core.Option.{Option, none, some}
 
 -- what was written, said otherwise, or as more words at most
@@ -48,15 +46,6 @@ wrote-two {m} {most} {top} {u} {v} {w} e h l = record {
   ends = (omega arith, omega arith);
 }
 
--- three pieces or more
-many-if : (k i p : List ℕ) (ps q : List (List ℕ)) (t : Bool) → keyed (k ∷ i ∷ q) ≡ none → keyed (k ∷ i ∷ if t (λ _. p ∷ ps) (λ _. q)) ≡ none
-many-if k i p ps q true h = refl
-many-if k i p ps q false h = h
-
-many : (k i got x : List ℕ) → keyed (k ∷ i ∷ cut 58 got x) ≡ none
-many k i got [] = refl
-many k i got (b ∷ bs) = many-if k i got (cut 58 [] bs) (cut 58 (got ++ (b ∷ [])) bs) (eqb b 58) (many k i (got ++ (b ∷ [])) bs)
-
 -- a key and an id
 module _ {s : List ℕ} {from to e : ℕ} (x : Seek s from to 58 e) where
   pub keyed-alone : {top : ℕ} {w : List ℕ} → e ≡ to → Keyed s from to top w w Bad
@@ -69,7 +58,7 @@ module _ {s : List ℕ} {from to e : ℕ} (x : Seek s from to 58 e) where
     pub keyed-many : {top : ℕ} {w : List ℕ} → (f ≡ to → ⊥) → Keyed s from to top w w Bad
     unfolding pieces
     keyed-many h = record {
-      wrote = wrote-none (ap keyed (x .here before ∙ ap (λ (l : List (List ℕ)). span s from e ∷ l) (y .here (lt-of-le-of-ne (y .high) h))) ∙ many (span s from e) (span s (e + 1) f) [] (span s (f + 1) to));
+      wrote = wrote-none (ap keyed (x .here before ∙ ap (λ (l : List (List ℕ)). span s from e ∷ l) (y .here (lt-of-le-of-ne (y .high) h))) ∙ cut-some (λ (q : List (List ℕ)). keyed (span s from e ∷ span s (e + 1) f ∷ q) ≡ none) (λ p ps. refl) 58 [] (span s (f + 1) to));
     }
 
     module _ {a : Num} (h : f ≡ to) (p : Number s from e a) where

@@ -1,3 +1,4 @@
 pub mod Escapes
 -- What the contracts cite.
 pub mod Reads
+pub mod Keywords

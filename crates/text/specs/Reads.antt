@@ -7,7 +7,7 @@ use lib.ListN.{length}
 use lib.Dec.{eqb, ltb}
 use Rattle.cells.specs.Part.{cell, part, if, eqList}
 use Rattle.rules.specs.Text.{tab, comma, colon, pieces, digit, digits, number, elements, listOf, single, keyed, hex, escaped, name, upTo, signOf}
-use Rattle.rules.specs.Text.{dynOf, fieldOf, byShape, Kind, tagged, recordIn, rowOf}
+use Rattle.rules.specs.Text.{dynOf, fieldOf, byShape, Kind, tagged, rowOf}
 use Rattle.text.specs.declared.Num.{Num}
 use Rattle.text.specs.declared.Num.the-variants.{No, Is}
 use Rattle.text.specs.declared.Got.{Got}
@@ -46,6 +46,7 @@ pub record Word (s : List ℕ) (from to : ℕ) (w : List ℕ) (r : Bool) : Type 
 pub record Seek (s : List ℕ) (from to sep e : ℕ) : Type 0 where
   pub low : from ≤ e
   pub high : e ≤ to
+  pub found : e < to → cell s e ≡ sep
   pub here : e < to → pieces sep (span s from to) ≡ span s from e ∷ pieces sep (span s (e + 1) to)
   pub last : e ≡ to → pieces sep (span s from to) ≡ span s from e ∷ []
 
@@ -83,11 +84,6 @@ pub record ShapeRoom (s : List ℕ) (from to : ℕ) (w : List ℕ) (top : ℕ) :
   pub within : to ≤ length s
   pub short : length s ≤ 65536
   pub room : top + 1 + (to + 1 - from) ≤ length w
-
--- the same after a keyword that ends at k
-pub record KindRoom (s : List ℕ) (from k to : ℕ) (w : List ℕ) (top : ℕ) : Type 0 where
-  pub within : k ≤ length s
-  pub room : ShapeRoom s (k + 1) to w top
 
 -- w′ is w but from t on
 pub record Above (t : ℕ) (w w′ : List ℕ) : Type 0 where
@@ -147,10 +143,6 @@ left s i to = if (ltb to i) (λ _. []) (λ _. pieces tab (span s i to))
 
 pub record Shaped (s : List ℕ) (from to tag : ℕ) (sh : List ℕ) (top : ℕ) (w w′ : List ℕ) (r : Got) : Type 0 where
   pub wrote : Wrote (tagged tag (byShape sh (left s from to))) (to + 1 - from + 1) top w w′ r
-
--- the row by one of the kinds ks, counted from n; the keyword ends at k
-pub record Kinded (ks : List Kind) (n : ℕ) (s : List ℕ) (from k to top : ℕ) (w w′ : List ℕ) (r : Got) : Type 0 where
-  pub wrote : Wrote (recordIn ks n (span s from k) (left s (k + 1) to)) (to + 1 - (k + 1) + 1) top w w′ r
 
 -- the row of a line
 pub record Row (ks : List Kind) (s : List ℕ) (from to top : ℕ) (w w′ : List ℕ) (r : Got) : Type 0 where

@@ -1,8 +1,12 @@
 // One line of text, read into a row of words: decimals, lists, names, and fields by their shape.
+pub mod kinds;
+
 ghost use mathlib.Core.Path.{_≡_};
+ghost use mathlib.Core.List.{[], _∷_};
 ghost use Prim.Native.Nat.{_≤_};
 ghost use lib.ListN.{length};
 ghost use Rattle.text.specs.Reads.{Digit, Digits, Number, Word, Seek, Hex, Escaped, Next, Room, FieldRoom, ShapeRoom, Keyed, Element, Elements, Listed, Bounded, Dyned, Signed, Named, Field, Shaped};
+ghost use Rattle.text.specs.Keywords.{Slot, shapeAt};
 
 pub enum Num {
     No,
@@ -35,7 +39,7 @@ fn code(b: u8) -> u32
 }
 
 // v with one more digit.
-pub fn one_more(v: u32, b: u8) -> Num
+fn one_more(v: u32, b: u8) -> Num
     ensures { λ r. ⌜ Digit v b r ⌝ }
 {
     if b < 48 {
@@ -103,31 +107,22 @@ pub fn seek(s: &[u8], from: usize, to: usize, sep: u8) -> usize
     i
 }
 
-// Whether w stands between from and to.
-pub fn word(s: &[u8], from: usize, to: usize, w: &[u8]) -> bool
-    requires { ⌜ to ≤ length (now s) ⌝ }
-    ensures { λ r. ⌜ Word (now (s .entry)) from to (now (w .entry)) r ⌝ }
+// Whether b alone stands between from and to.
+fn mark(s: &[u8], from: usize, to: usize, b: u8) -> bool
+    requires { ⌜ (from ≤ to) × (to ≤ length (now s)) ⌝ }
+    ensures { λ r. ⌜ Word (now (s .entry)) from to (b ∷ []) r ⌝ }
 {
-    let mut i = from;
-    let mut k = 0;
-    while k < w.len() {
-        if to <= i {
-            return false;
-        }
-        if s[i] != w[k] {
-            return false;
-        }
-        i += 1;
-        k += 1;
+    if to - from != 1 {
+        return false;
     }
-    if i < to {
+    if s[from] != b {
         return false;
     }
     true
 }
 
 // The value of a lower-case hex digit; 16 of any other byte.
-pub fn hex(b: u32) -> u32
+fn hex(b: u32) -> u32
     ensures { λ r. ⌜ Hex b r ⌝ }
 {
     if b < 48 {
@@ -146,7 +141,7 @@ pub fn hex(b: u32) -> u32
 }
 
 // Whether a byte of a name is written as an escape.
-pub fn escaped(b: u32) -> bool
+fn escaped(b: u32) -> bool
     ensures { λ r. ⌜ Escaped b r ⌝ }
 {
     if b < 32 {
@@ -159,7 +154,7 @@ pub fn escaped(b: u32) -> bool
 }
 
 // A byte in state 0 (plain), 1 (after a backslash), 2 + h (after the digit h too).
-pub fn next(st: u32, b: u32) -> Step
+fn next(st: u32, b: u32) -> Step
     requires { ⌜ st ≤ 17 ⌝ }
     ensures { λ r. ⌜ Next st b r ⌝ }
 {
@@ -187,7 +182,7 @@ pub fn next(st: u32, b: u32) -> Step
 }
 
 // The bytes of the name between from and to, written from top on.
-pub fn name_of(s: &[u8], from: usize, to: usize, words: &mut [u32], top: usize) -> Got
+fn name_of(s: &[u8], from: usize, to: usize, words: &mut [u32], top: usize) -> Got
     requires { ⌜ Room (now s) from to (now words) top ⌝ }
     ensures { λ r. ⌜ Named (now (s .entry)) from to top (now (words .entry)) (now (words .exit)) r ⌝ }
 {
@@ -218,7 +213,7 @@ pub fn name_of(s: &[u8], from: usize, to: usize, words: &mut [u32], top: usize) 
 }
 
 // A key and an id, parted by a colon.
-pub fn keyed_of(s: &[u8], from: usize, to: usize, words: &mut [u32], top: usize) -> Got
+fn keyed_of(s: &[u8], from: usize, to: usize, words: &mut [u32], top: usize) -> Got
     requires { ⌜ Room (now s) from to (now words) top ⌝ }
     ensures { λ r. ⌜ Keyed (now (s .entry)) from to top (now (words .entry)) (now (words .exit)) r ⌝ }
 {
@@ -242,14 +237,7 @@ pub fn keyed_of(s: &[u8], from: usize, to: usize, words: &mut [u32], top: usize)
 }
 
 // An element of a list whose elements take each words: a number, or a key and an id.
-pub fn element_of(
-    s: &[u8],
-    from: usize,
-    to: usize,
-    each: usize,
-    words: &mut [u32],
-    top: usize,
-) -> Got
+fn element_of(s: &[u8], from: usize, to: usize, each: usize, words: &mut [u32], top: usize) -> Got
     requires { ⌜ Room (now s) from to (now words) top ⌝ }
     ensures { λ r. ⌜ Element (now (s .entry)) from to each top (now (words .entry)) (now (words .exit)) r ⌝ }
 {
@@ -264,14 +252,7 @@ pub fn element_of(
 }
 
 // The elements between from and to, parted by commas.
-pub fn elements_of(
-    s: &[u8],
-    from: usize,
-    to: usize,
-    each: usize,
-    words: &mut [u32],
-    top: usize,
-) -> Got
+fn elements_of(s: &[u8], from: usize, to: usize, each: usize, words: &mut [u32], top: usize) -> Got
     requires { ⌜ Room (now s) from to (now words) top ⌝ }
     ensures { λ r. ⌜ Elements (now (s .entry)) from to each top (now (words .entry)) (now (words .exit)) r ⌝ }
 {
@@ -295,12 +276,12 @@ pub fn elements_of(
 }
 
 // A list: how many elements there are, then their words.
-pub fn list_of(s: &[u8], from: usize, to: usize, each: usize, words: &mut [u32], top: usize) -> Got
+fn list_of(s: &[u8], from: usize, to: usize, each: usize, words: &mut [u32], top: usize) -> Got
     requires { ⌜ FieldRoom (now s) from to (now words) top ⌝ }
     requires { ⌜ 1 ≤ each ⌝ }
     ensures { λ r. ⌜ Listed (now (s .entry)) from to each top (now (words .entry)) (now (words .exit)) r ⌝ }
 {
-    if word(s, from, to, b"-") {
+    if mark(s, from, to, 45) {
         words[top] = 0;
         return Got::To(top + 1);
     }
@@ -314,7 +295,7 @@ pub fn list_of(s: &[u8], from: usize, to: usize, each: usize, words: &mut [u32],
 }
 
 // A number of at most most.
-pub fn up_to(s: &[u8], from: usize, to: usize, most: u32, words: &mut [u32], top: usize) -> Got
+fn up_to(s: &[u8], from: usize, to: usize, most: u32, words: &mut [u32], top: usize) -> Got
     requires { ⌜ FieldRoom (now s) from to (now words) top ⌝ }
     ensures { λ r. ⌜ Bounded (now (s .entry)) from to most top (now (words .entry)) (now (words .exit)) r ⌝ }
 {
@@ -329,11 +310,11 @@ pub fn up_to(s: &[u8], from: usize, to: usize, most: u32, words: &mut [u32], top
 }
 
 // An id, or `-`.
-pub fn dyn_of(s: &[u8], from: usize, to: usize, words: &mut [u32], top: usize) -> Got
+fn dyn_of(s: &[u8], from: usize, to: usize, words: &mut [u32], top: usize) -> Got
     requires { ⌜ FieldRoom (now s) from to (now words) top ⌝ }
     ensures { λ r. ⌜ Dyned (now (s .entry)) from to top (now (words .entry)) (now (words .exit)) r ⌝ }
 {
-    if word(s, from, to, b"-") {
+    if mark(s, from, to, 45) {
         words[top] = 0;
         return Got::To(top + 1);
     }
@@ -346,15 +327,15 @@ pub fn dyn_of(s: &[u8], from: usize, to: usize, words: &mut [u32], top: usize) -
 }
 
 // `+` is 0 and `-` is 1.
-pub fn sign_of(s: &[u8], from: usize, to: usize, words: &mut [u32], top: usize) -> Got
+fn sign_of(s: &[u8], from: usize, to: usize, words: &mut [u32], top: usize) -> Got
     requires { ⌜ FieldRoom (now s) from to (now words) top ⌝ }
     ensures { λ r. ⌜ Signed (now (s .entry)) from to top (now (words .entry)) (now (words .exit)) r ⌝ }
 {
-    if word(s, from, to, b"+") {
+    if mark(s, from, to, 43) {
         words[top] = 0;
         return Got::To(top + 1);
     }
-    if word(s, from, to, b"-") {
+    if mark(s, from, to, 45) {
         words[top] = 1;
         return Got::To(top + 1);
     }
@@ -383,7 +364,7 @@ fn field_rest(s: &[u8], from: usize, to: usize, kind: u8, words: &mut [u32], top
 }
 
 // The words of a field of a kind, written from top on.
-pub fn field_of(s: &[u8], from: usize, to: usize, kind: u8, words: &mut [u32], top: usize) -> Got
+fn field_of(s: &[u8], from: usize, to: usize, kind: u8, words: &mut [u32], top: usize) -> Got
     requires { ⌜ FieldRoom (now s) from to (now words) top ⌝ }
     ensures { λ r. ⌜ Field (now (s .entry)) from to kind top (now (words .entry)) (now (words .exit)) r ⌝ }
 {
@@ -402,29 +383,32 @@ pub fn field_of(s: &[u8], from: usize, to: usize, kind: u8, words: &mut [u32], t
     field_rest(s, from, to, kind, words, top)
 }
 
-// tag, and the fields from from on, by their shape.
+// The number of a kind, and the fields from from on, by its shape.
 pub fn fields_of(
     s: &[u8],
     from: usize,
     to: usize,
-    tag: u32,
-    shape: &[u8],
+    kinds: &[u8],
+    kind: u32,
     words: &mut [u32],
     top: usize,
 ) -> Got
     requires { ⌜ ShapeRoom (now s) from to (now words) top ⌝ }
-    ensures { λ r. ⌜ Shaped (now (s .entry)) from to tag (now (shape .entry)) top (now (words .entry)) (now (words .exit)) r ⌝ }
+    requires { ⌜ Slot (now kinds) kind ⌝ }
+    ensures { λ r. ⌜ Shaped (now (s .entry)) from to kind (shapeAt (now (kinds .entry)) kind) top (now (words .entry)) (now (words .exit)) r ⌝ }
 {
+    let a = 17 * kind as usize;
+    let n = kinds[a + 9] as usize;
     let mut i = from;
     let mut t = top + 1;
     let mut k = 0;
-    while k < shape.len() {
+    while k < n {
         if to < i {
             return Got::Bad;
         }
         let e = seek(s, i, to, 9);
-        let kind = shape[k];
-        match field_of(s, i, e, kind, words, t) {
+        let field = kinds[a + 10 + k];
+        match field_of(s, i, e, field, words, t) {
             Got::Bad => {
                 return Got::Bad;
             }
@@ -438,6 +422,6 @@ pub fn fields_of(
     if i <= to {
         return Got::Bad;
     }
-    words[top] = tag;
+    words[top] = kind;
     Got::To(t)
 }

@@ -1,42 +1,66 @@
-use mathlib.Core.Path.{refl}
-use Rattle.answers.proofs.Promises.{not-short}
-use Rattle.canon_call.proofs.Calling.{short-answer, refused-answer, listed-answer}
 use native.Mathlib.Omega.{arith}
+use Rattle.outcomes.proofs.Promises.{long-enough}
+use Rattle.canon_call.proofs.Calling.{short-answer, refused-answer, no-entry, delivered}
+use mathlib.Core.Path.{_∙_}
 use borrow.Author.Needs.{needs}
 use Rattle.canon_call.proofs.answer.Statement.{statement}
 use Rattle.canon_call.proofs.answer.Tie as tie
 
 returns : tie.Need-returns
-returns c = short-answer (c .before .is-short .ensures) (c .if1 .taken)
+returns c =
+    let is-short = c .before .is-short in
+    short-answer (is-short .ensures) (c .if1 .taken)
 
 read-requires : tie.Need-read-requires
 read-requires c κs =
-    let clear = c .before .before .before .before .before .before .before .clear in
-    let if1 = c .before .before .before .before .before .before .before .before .before .if1 in
-    let is-short = c .before .before .before .before .before .before .before .before .before .before .is-short in
-    omega (arith, not-short (is-short .ensures) (if1 .left), clear .kept .0)
+    let is-short = c .before .before .before .before .before .before .is-short in
+    let if1 = c .before .before .before .before .before .if1 in
+    let clear = c .before .before .before .clear in
+    omega (arith, long-enough (is-short .ensures) (if1 .left) .0, clear .kept .0)
 
 returns-2 : tie.Need-returns-2
 returns-2 c =
-    let mid = c .before .before .before .before .before .before .before .before .before .before .before .before .before .before in
-    let k = c .before .k in
-    let read = c .before .before .before .before .before .read in
-    let if1 = mid .before .if1 in
-    let is-short = mid .before .before .is-short in
-    refused-answer (is-short .ensures) (if1 .left) (read .ensures) (k .given .1)
+    let is-short = c .before .before .before .before .before .before .before .before .before .before .before .before .before .before .is-short in
+    let if1 = c .before .before .before .before .before .before .before .before .before .before .before .before .before .if1 in
+    let clear = c .before .before .before .before .before .before .before .before .before .before .before .clear in
+    let read = c .before .before .before .before .before .before .before .read in
+    let t = c .before .before .before .t in
+    let is-no-entry = c .before .is-no-entry in
+    no-entry (is-short .ensures) (if1 .left) (clear .ensures) (clear .kept .0) (read .ensures) (t .given .1) (is-no-entry .ensures) (c .if2 .taken)
 
 returns-3 : tie.Need-returns-3
 returns-3 c =
+    let is-short = c .before .before .before .before .before .before .before .before .before .before .before .before .is-short in
+    let if1 = c .before .before .before .before .before .before .before .before .before .before .before .if1 in
+    let read = c .before .before .before .before .before .read in
+    let k = c .before .k in
+    refused-answer (is-short .ensures) (if1 .left) (read .ensures) (k .given .1)
+
+same-length-5 : tie.Need-same-length-5
+same-length-5 c =
     let mid = c .before .before .before .before .before .before .before .before .before .before .before .before .before .before in
     let low = mid .before .before .before .before .before .before .before .before .before .before .before .before .before .before in
-    let list-asked = c .before .before .before .before .before .before .before .before .before .before .list-asked in
-    let t = mid .before .before .before .t in
-    let read = mid .before .before .before .before .before .before .before .read in
-    let clear2 = mid .before .before .before .before .before .before .before .before .before .before .before .clear2 in
-    let clear = low .before .clear in
-    let if1 = low .before .before .before .if1 in
-    let is-short = low .before .before .before .before .is-short in
-    listed-answer (is-short .ensures) (if1 .left) (clear .ensures) (clear .kept .0) (read .ensures) (t .given .1) refl (clear2 .kept .0) (list-asked .ensures)
+    let deliver = c .before .before .before .before .before .before .before .before .before .before .deliver in
+    let prepare = mid .before .before .before .before .before .prepare in
+    let read = low .read in
+    let clear = low .before .before .before .before .clear in
+    deliver .kept .1 .1 .1 .1 .0 ∙ prepare .kept .0 ∙ read .kept .1 .0 ∙ clear .kept .0
+
+returns-4 : tie.Need-returns-4
+returns-4 c =
+    let mid = c .before .before .before .before .before .before .before .before .before .before .before .before .before .before in
+    let low = mid .before .before .before .before .before .before .before .before .before .before .before .before .before .before in
+    let is-short = low .before .before .before .before .before .before .before .is-short in
+    let if1 = low .before .before .before .before .before .before .if1 in
+    let clear = low .before .before .before .before .clear in
+    let read = low .read in
+    let t = mid .before .before .before .before .before .before .before .before .before .before .t in
+    let is-no-entry = mid .before .before .before .before .before .before .before .before .is-no-entry in
+    let if2 = mid .before .before .before .before .before .before .before .if2 in
+    let prepare = mid .before .before .before .before .before .prepare in
+    let deliver = c .before .before .before .before .before .before .before .before .before .before .deliver in
+    delivered (is-short .ensures) (if1 .left) (clear .ensures) (clear .kept .0) (read .ensures) (t .given .1) (is-no-entry .ensures) (if2 .left)
+    (prepare .ensures) (prepare .kept .0) (deliver .ensures)
 
 pub answer-spec : {M : Type 1} → statement M
 answer-spec =
@@ -45,18 +69,20 @@ answer-spec =
     (λ c _. search needs)
     returns
     (λ c _. search needs)
-    (λ c. search needs)
-    (λ c _. search needs)
     read-requires
     (λ c. search needs)
     (λ c. search needs)
     (λ c _. search needs)
     (λ c. search needs)
-    (λ c. search needs)
     returns-2
+    (λ c _. search needs)
+    (λ c. search needs)
+    (λ c _. search needs)
+    (λ c. search needs)
+    returns-3
     (λ c. search needs)
     (λ c. search needs)
+    same-length-5
     (λ c. search needs)
     (λ c. search needs)
-    (λ c. search needs)
-    returns-3)
+    returns-4)

@@ -1,3 +1,4 @@
+use mathlib.Core.Path.{refl}
 use Rattle.rules.specs.Calls.{canonCall}
 use borrow.Author.Needs.{needs}
 use Rattle.canon_call.proofs.canon.Statement.{statement}
@@ -5,7 +6,9 @@ use Rattle.canon_call.proofs.canon.Tie as tie
 
 returns : tie.Need-returns
 unfolding canonCall
-returns c = c .before .before .before .before .before .before .before .before .before .before .call .ensures
+returns c =
+    let call = c .before .before .before .before .before .before .before .before .before .before .call in
+    call .ensures .is _ refl
 
 pub canon-spec : {M : Type 1} → statement M
 canon-spec =

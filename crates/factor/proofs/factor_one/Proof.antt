@@ -3,12 +3,6 @@ use borrow.Author.Needs.{needs}
 use Rattle.factor.proofs.factor_one.Statement.{statement}
 use Rattle.factor.proofs.factor_one.Tie as tie
 
-returns : tie.Need-returns
-returns c = search one-on
-
-returns-2 : tie.Need-returns-2
-returns-2 c = search one-refused
-
 pub factor-one-spec : {M : Type 1} → statement M
 factor-one-spec =
     tie.close
@@ -22,6 +16,6 @@ factor-one-spec =
     (λ c. search needs)
     (λ c _. search needs)
     (λ c. search needs)
-    returns
+    (λ c. search one-on)
     (λ c. search needs)
-    returns-2)
+    (λ c. search one-refused))

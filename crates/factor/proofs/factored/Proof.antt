@@ -3,12 +3,6 @@ use borrow.Author.Needs.{needs}
 use Rattle.factor.proofs.factored.Statement.{statement}
 use Rattle.factor.proofs.factored.Tie as tie
 
-returns : tie.Need-returns
-returns c = search parts-on
-
-returns-2 : tie.Need-returns-2
-returns-2 c = search parts-refused
-
 pub factored-spec : {M : Type 1} → statement M
 factored-spec =
     tie.close
@@ -22,6 +16,6 @@ factored-spec =
     (λ c. search needs)
     (λ c _. search needs)
     (λ c. search needs)
-    returns
+    (λ c. search parts-on)
     (λ c. search needs)
-    returns-2)
+    (λ c. search parts-refused))

@@ -1,26 +1,25 @@
-use Rattle.factor.proofs.Factors.{Searched, searched-start, searched-not, searched-more, searched-done}
-use borrow.Author.Needs.{needs}
+-- The search of Gathered for a union that lacks x.
+use mathlib.Core.Path.{refl, ap}
+use mathlib.Core.Bool.{not}
 use Prim.Native.Nat.{_-_}
+use borrow.Author.Needs.{needs}
+use Rattle.members.proofs.Gathered.{alone, Searching, searching-start, searching-here, searching-more, searching-done}
+use Rattle.factor.specs.Factors.{hasMember}
+use Rattle.factor.proofs.Factors.{others-is}
 use Rattle.factor.proofs.in_all_others.Statement.{statement}
 use Rattle.factor.proofs.in_all_others.Tie as tie
 
 abbrev Inv-loop : tie.InvT-loop
-Inv-loop arena s n x i₀ i = Searched arena s n x i
+Inv-loop arena s n x i₀ i = Searching alone (λ _ ns u. not (hasMember x ns u)) arena s 1 n i
 
 abbrev μ-loop : tie.MeasureT-loop
 μ-loop arena s n x i₀ i = n - i
 
-loop-holds : tie.Need-loop-holds Inv-loop μ-loop
-loop-holds c = search searched-start
-
 returns : tie.Need-returns Inv-loop μ-loop
-returns c = search searched-not
+returns c = others-is _ (searching-here (c .before .before .before .before .loop .inv) (c .before .before .before .loop-test .taken) (c .before .before .at .ensures) (record { is = λ a h p lt. ap not (c .before .has-member .ensures .is h lt) }) (c .if1 .taken)) refl
 
 loop-again : tie.Need-loop-again Inv-loop μ-loop
-loop-again c = search searched-more
-
-returns-2 : tie.Need-returns-2 Inv-loop μ-loop
-returns-2 c = search searched-done
+loop-again c = searching-more (c .before .before .before .before .loop .inv) (c .before .before .before .loop-test .taken) (c .before .before .at .ensures) (record { is = λ a h p lt. ap not (c .before .has-member .ensures .is h lt) }) (c .if1 .left)
 
 pub in-all-others-spec : {M : Type 1} → statement M
 in-all-others-spec =
@@ -28,11 +27,11 @@ in-all-others-spec =
     (tie.spec
     Inv-loop
     μ-loop
-    loop-holds
+    (λ c. searching-start)
     (λ c _. search needs)
     (λ c _. search needs)
     returns
     (λ c. search needs)
     (λ c. search needs)
     loop-again
-    returns-2)
+    (λ c. others-is _ (searching-done (c .before .loop .inv) (c .loop-test .left)) refl))

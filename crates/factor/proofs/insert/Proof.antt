@@ -3,9 +3,6 @@ use borrow.Author.Needs.{needs}
 use Rattle.factor.proofs.insert.Statement.{statement}
 use Rattle.factor.proofs.insert.Tie as tie
 
-returns : tie.Need-returns
-returns c = search inserts-is
-
 pub insert-spec : {M : Type 1} → statement M
 insert-spec =
     tie.close
@@ -13,4 +10,4 @@ insert-spec =
     (λ c _. search needs)
     (λ c _. search needs)
     (λ c. search needs)
-    returns)
+    (λ c. search inserts-is))

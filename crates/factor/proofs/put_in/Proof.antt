@@ -1,3 +1,4 @@
+-- The cells before j are in their new places, and v is the one that gives way.
 use Rattle.factor.proofs.Factors.{Putting, putting-start, putting-more, putting-done}
 use borrow.Author.Needs.{needs}
 use Prim.Native.Nat.{_-_}
@@ -12,27 +13,18 @@ Inv-loop s₀ i n x v₀ j₀ s v j = Putting s₀ i n x s v j × (length s ≡ 
 abbrev μ-loop : tie.MeasureT-loop
 μ-loop s₀ i n x v₀ j₀ s v j = n - j
 
-loop-holds : tie.Need-loop-holds Inv-loop μ-loop
-loop-holds c = (putting-start, search needs)
-
-loop-again : tie.Need-loop-again Inv-loop μ-loop
-loop-again c = (search putting-more, search needs)
-
-returns : tie.Need-returns Inv-loop μ-loop
-returns c = search putting-done
-
 pub put-in-spec : {M : Type 1} → statement M
 put-in-spec =
     tie.close
     (tie.spec
     Inv-loop
     μ-loop
-    loop-holds
+    (λ c. (putting-start, search needs))
     (λ c _. search needs)
     (λ c _. search needs)
     (λ c. search needs)
     (λ c. search needs)
-    loop-again
+    (λ c. (search putting-more, search needs))
     (λ c _. search needs)
     (λ c. search needs)
-    returns)
+    (λ c. search putting-done))

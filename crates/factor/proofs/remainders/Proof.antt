@@ -1,3 +1,4 @@
+-- The loop of Partway; its step is the rules' union without the shared members.
 use native.Mathlib.Omega.{arith}
 use Rattle.factor.proofs.Factors.{Leaving, leaving-start, leaving-more, leaves-refused, leaves-done}
 use borrow.Author.Needs.{needs}
@@ -13,9 +14,6 @@ Inv-loop arena₀ s m us n out₀ k₀ q₀ i₀ arena out k q i = Leaving arena
 abbrev μ-loop : tie.MeasureT-loop
 μ-loop arena₀ s m us n out₀ k₀ q₀ i₀ arena out k q i = n - i
 
-loop-holds : tie.Need-loop-holds Inv-loop μ-loop
-loop-holds c = (leaving-start, search needs, search needs, search needs, search needs)
-
 add-i : tie.Need-add-i Inv-loop μ-loop
 add-i c = omega (arith, c .before .before .before .before .before .before .before .before .before .before .before .before .before .loop .inv .1, c .before .before .before .before .before .before .before .before .before .before .before .before .before .loop .inv .2, c .before .before .before .before .before .before .before .before .before .before .before .before .loop-test .taken)
 
@@ -25,16 +23,13 @@ loop-again c = (leaving-more (c .before .before .before .before .before .before 
 returns : tie.Need-returns Inv-loop μ-loop
 returns c = leaves-refused (c .before .before .before .before .before .before .before .before .before .before .before .before .before .before .loop .inv .0) (c .before .before .before .before .before .before .before .before .before .before .before .before .before .loop-test .taken) (c .before .before .before .before .before .before .before .before .before .at .ensures) (c .before .before .before .before .before .before .before .remainder .ensures) (c .before .before .why .given .1) (c .refused .ensures)
 
-returns-2 : tie.Need-returns-2 Inv-loop μ-loop
-returns-2 c = leaves-done (c .before .loop .inv .0) (c .loop-test .left)
-
 pub remainders-spec : {M : Type 1} → statement M
 remainders-spec =
     tie.close
     (tie.spec
     Inv-loop
     μ-loop
-    loop-holds
+    (λ c. (leaving-start, search needs, search needs, search needs, search needs))
     (λ c. search needs)
     (λ c. search needs)
     (λ c _. search needs)
@@ -49,4 +44,4 @@ remainders-spec =
     (λ c. search needs)
     returns
     (λ c. search needs)
-    returns-2)
+    (λ c. leaves-done (c .before .loop .inv .0) (c .loop-test .left)))

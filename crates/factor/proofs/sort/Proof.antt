@@ -1,3 +1,4 @@
+-- The first i cells are the rules' sort of the first i members.
 use Rattle.factor.proofs.Factors.{Inserting, inserting-start, inserting-more, inserting-done}
 use borrow.Author.Needs.{needs}
 use Prim.Native.Nat.{_-_}
@@ -12,27 +13,18 @@ Inv-loop arena ms n out₀ i₀ out i = Inserting arena ms n out i × (length ou
 abbrev μ-loop : tie.MeasureT-loop
 μ-loop arena ms n out₀ i₀ out i = n - i
 
-loop-holds : tie.Need-loop-holds Inv-loop μ-loop
-loop-holds c = (inserting-start, search needs)
-
-loop-again : tie.Need-loop-again Inv-loop μ-loop
-loop-again c = (search inserting-more, search needs)
-
-returns : tie.Need-returns Inv-loop μ-loop
-returns c = inserting-done (c .before .loop .inv .0) (c .loop-test .left)
-
 pub sort-spec : {M : Type 1} → statement M
 sort-spec =
     tie.close
     (tie.spec
     Inv-loop
     μ-loop
-    loop-holds
+    (λ c. (inserting-start, search needs))
     (λ c. search needs)
     (λ c. search needs)
     (λ c _. search needs)
     (λ c _. search needs)
     (λ c. search needs)
     (λ c. search needs)
-    loop-again
-    returns)
+    (λ c. (search inserting-more, search needs))
+    (λ c. inserting-done (c .before .loop .inv .0) (c .loop-test .left)))

@@ -3,9 +3,6 @@ use borrow.Author.Needs.{needs}
 use Rattle.merge.proofs.merge_attrset_intersection.Statement.{statement}
 use Rattle.merge.proofs.merge_attrset_intersection.Tie as tie
 
-returns : tie.Need-returns
-returns c = top-none (c .before .before .of-kind .ensures) (c .if1 .taken)
-
 returns-2 : tie.Need-returns-2
 returns-2 c = top-merged (c .before .before .before .before .before .before .before .before .before .before .before .before .before .before .before .before .of-kind .ensures) (c .before .before .before .before .before .before .before .before .before .before .before .before .before .before .if1 .left) (c .before .before .before .before .before .before .before .before .before .before .before .before .of-kind2 .ensures) (c .before .before .before .before .before .before .before .before .before .merge-sets .ensures) (c .before .before .merged-last .ensures)
 
@@ -15,7 +12,7 @@ merge-attrset-intersection-spec =
     (tie.spec
     (λ c _. search needs)
     (λ c. search needs)
-    returns
+    (λ c. top-none (c .before .before .of-kind .ensures) (c .if1 .taken))
     (λ c _. search needs)
     (λ c _. search needs)
     (λ c _. search needs)

@@ -3,9 +3,6 @@ use borrow.Author.Needs.{needs}
 use Rattle.merge.proofs.merge_dyn.Statement.{statement}
 use Rattle.merge.proofs.merge_dyn.Tie as tie
 
-returns : tie.Need-returns
-returns c = dyn-none (c .before .dyns .ensures) (c .if1 .taken)
-
 returns-2 : tie.Need-returns-2
 returns-2 c = dyn-first (c .before .before .before .before .before .before .dyns .ensures) (c .before .before .before .before .before .if1 .left) (c .before .before .before .dyn-type .ensures) (c .before .if2 .taken) (c .with-dyn .ensures)
 
@@ -24,7 +21,7 @@ merge-dyn-spec =
     (tie.spec
     (λ c _. search needs)
     (λ c. search needs)
-    returns
+    (λ c. dyn-none (c .before .dyns .ensures) (c .if1 .taken))
     (λ c _. search needs)
     (λ c _. search needs)
     (λ c. search needs)

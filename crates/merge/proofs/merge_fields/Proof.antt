@@ -1,3 +1,4 @@
+-- What was merged, with what the rules' merge makes of the fields that are left, is all of it; i and j only grow.
 use mathlib.Core.Path.{_≡_, _∙_}
 use borrow.Author.Needs.{needs}
 use Rattle.merge.proofs.MergeFields.{Sweeping, sweeping-start, sweeping-more, sweeping-refused, sweeping-done}
@@ -13,9 +14,6 @@ Inv-loop arena₀ held₀ g x b a n m most q₀ i₀ j₀ k₀ arena held q i j 
 abbrev μ-loop : tie.MeasureT-loop
 μ-loop arena₀ held₀ g x b a n m most q₀ i₀ j₀ k₀ arena held q i j k = most - k
 
-loop-holds : tie.Need-loop-holds Inv-loop μ-loop
-loop-holds c = (sweeping-start, search needs, search needs, search needs, search needs)
-
 add-k : tie.Need-add-k Inv-loop μ-loop
 add-k c = omega (arith, (c .before .before .before .before .before .before .before .before .before .before .before .before .before .before .before .before .before .before .before .before .goes-on .ensures .some (c .before .before .before .before .before .before .before .before .before .before .before .before .before .before .before .before .before .before .before .if1 .taken)) .0, c .before .before .before .before .before .before .before .before .before .before .before .before .before .before .before .before .before .before .before .before .before .loop .inv .2)
 
@@ -24,12 +22,6 @@ loop-less c = omega (arith, (c .before .before .before .before .before .before .
 
 loop-again : tie.Need-loop-again Inv-loop μ-loop
 loop-again c = (sweeping-more (c .before .before .before .before .before .before .before .before .before .before .before .before .before .before .before .before .before .before .before .before .before .loop .inv .0) (c .before .before .before .before .before .before .before .before .before .before .before .before .before .before .before .before .before .before .before .before .before .before .before .before .set-place .ensures) (c .before .before .before .before .before .before .before .before .before .before .before .before .before .before .before .before .before .before .before .before .before .before .before .fields .ensures) (c .before .before .before .before .before .before .before .before .before .before .before .before .before .before .before .before .before .before .before .before .goes-on .ensures) (c .before .before .before .before .before .before .before .before .before .before .before .before .before .before .before .before .before .before .before .if1 .taken) (c .before .before .before .before .before .before .before .before .before .before .before .before .before .before .before .before .before .set-place2 .ensures) (c .before .before .before .before .before .before .before .before .before .before .before .before .before .before .next-field .ensures) (c .before .before .before .before .before .before .before .before .before .before .before .merge-field .ensures) (c .before .before .before .before .before .r .given .1) (c .before .before .before .takes-old .ensures) (c .before .before .add2 .ensures) (c .before .takes-new .ensures) (c .add3 .ensures) (c .before .before .before .before .before .before .before .before .before .before .before .merge-field .kept .1 .0), omega (arith, (c .before .before .before .before .before .before .before .before .before .before .before .before .before .before .before .before .before .before .before .before .goes-on .ensures .some (c .before .before .before .before .before .before .before .before .before .before .before .before .before .before .before .before .before .before .before .if1 .taken)) .0), c .before .before .before .before .before .before .before .before .before .before .before .before .before .before .before .before .before .before .before .before .before .loop .inv .2, c .before .before .before .before .before .before .before .before .before .before .before .merge-field .kept .0 ∙ c .before .before .before .before .before .before .before .before .before .before .before .before .before .before .before .before .before .before .before .before .before .loop .inv .3, c .before .before .before .before .before .before .before .before .before .before .before .merge-field .kept .1 .0 ∙ c .before .before .before .before .before .before .before .before .before .before .before .before .before .before .before .before .before .before .before .before .before .loop .inv .4)
-
-returns : tie.Need-returns Inv-loop μ-loop
-returns c = sweeping-refused (c .before .before .before .before .before .before .before .before .before .before .before .before .before .before .before .before .before .loop .inv .0) (c .before .before .before .before .before .before .before .before .before .before .before .before .before .before .before .before .before .before .before .before .set-place .ensures) (c .before .before .before .before .before .before .before .before .before .before .before .before .before .before .before .before .before .before .before .fields .ensures) (c .before .before .before .before .before .before .before .before .before .before .before .before .before .before .before .before .goes-on .ensures) (c .before .before .before .before .before .before .before .before .before .before .before .before .before .before .before .if1 .taken) (c .before .before .before .before .before .before .before .before .before .before .before .before .before .set-place2 .ensures) (c .before .before .before .before .before .before .before .before .before .before .next-field .ensures) (c .before .before .before .before .before .before .before .merge-field .ensures) (c .before .why .given .1)
-
-returns-2 : tie.Need-returns-2 Inv-loop μ-loop
-returns-2 c = sweeping-done (c .before .before .before .loop .inv .0) (c .before .before .before .before .before .before .set-place .ensures) (c .before .before .before .before .before .fields .ensures) (c .before .before .goes-on .ensures) (c .before .if1 .left) (c .before .before .before .before .add .ensures) (c .with-fields .ensures)
 
 pub merge-fields-spec : {M : Type 1} → statement M
 merge-fields-spec =
@@ -40,7 +32,7 @@ merge-fields-spec =
     (λ c _. search needs)
     (λ c _. search needs)
     (λ c _. search needs)
-    loop-holds
+    (λ c. (sweeping-start, search needs, search needs, search needs, search needs))
     (λ c _. search needs)
     (λ c _. search needs)
     (λ c _. search needs)
@@ -56,8 +48,8 @@ merge-fields-spec =
     (λ c. search needs)
     (λ c. search needs)
     (λ c. search needs)
-    returns
+    (λ c. search sweeping-refused)
     (λ c _. search needs)
     (λ c. search needs)
     (λ c. search needs)
-    returns-2)
+    (λ c. search sweeping-done))

@@ -1,3 +1,4 @@
+-- The rules come to what was merged of the first i sets, with the others left to merge.
 use borrow.Author.Needs.{needs}
 use Rattle.merge.proofs.MergeSets.{Passing, passing-start, passing-more, passing-refused, passing-done}
 use native.Mathlib.Omega.{arith}
@@ -13,9 +14,6 @@ Inv-loop arena₀ held₀ h ms n g₀ q₀ i₀ arena held g q i = Passing arena
 abbrev μ-loop : tie.MeasureT-loop
 μ-loop arena₀ held₀ h ms n g₀ q₀ i₀ arena held g q i = n - i
 
-loop-holds : tie.Need-loop-holds Inv-loop μ-loop
-loop-holds c = (passing-start, search needs, search needs, search needs)
-
 add-i : tie.Need-add-i Inv-loop μ-loop
 add-i c = omega (arith, c .before .before .before .before .before .before .before .before .before .before .before .before .before .loop .inv .0 .few, c .before .before .before .before .before .before .before .before .before .before .before .before .before .loop .inv .1, c .before .before .before .before .before .before .before .before .before .before .before .before .loop-test .taken)
 
@@ -25,16 +23,13 @@ loop-again c = (passing-more (c .before .before .before .before .before .before 
 returns : tie.Need-returns Inv-loop μ-loop
 returns c = passing-refused (c .before .before .before .before .before .before .before .before .before .before .before .before .before .loop .inv .0) (c .before .before .before .before .before .before .before .before .before .before .before .before .loop-test .taken) (c .before .before .before .before .before .before .before .before .at .ensures) (c .before .before .before .before .before .before .before .merge-one .ensures) (c .before .k .given .1)
 
-returns-2 : tie.Need-returns-2 Inv-loop μ-loop
-returns-2 c = passing-done (c .before .loop .inv .0) (c .loop-test .left)
-
 pub merge-sets-spec : {M : Type 1} → statement M
 merge-sets-spec =
     tie.close
     (tie.spec
     Inv-loop
     μ-loop
-    loop-holds
+    (λ c. (passing-start, search needs, search needs, search needs))
     (λ c. search needs)
     (λ c _. search needs)
     (λ c _. search needs)
@@ -48,4 +43,4 @@ merge-sets-spec =
     returns
     (λ c. search needs)
     (λ c. search needs)
-    returns-2)
+    (λ c. passing-done (c .before .loop .inv .0) (c .loop-test .left)))

@@ -6,9 +6,6 @@ use Rattle.merge.proofs.merged_last.Tie as tie
 returns : tie.Need-returns
 returns c = last-merged (c .before .before .before .before .before .before .d .given .1) (c .before .before .before .store-merged .ensures) (c .with-last .ensures)
 
-returns-2 : tie.Need-returns-2
-returns-2 c = last-refused (c .before .before .d2 .given .1) (c .refused .ensures)
-
 pub merged-last-spec : {M : Type 1} → statement M
 merged-last-spec =
     tie.close
@@ -20,4 +17,4 @@ merged-last-spec =
     (λ c _. search needs)
     (λ c. search needs)
     returns
-    returns-2)
+    (λ c. last-refused (c .before .before .d2 .given .1) (c .refused .ensures)))

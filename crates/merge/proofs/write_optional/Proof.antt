@@ -1,3 +1,4 @@
+-- The optional ones among the first i keys stand from o on.
 use borrow.Author.Needs.{needs}
 use Rattle.merge.proofs.MergeStore.{Choosing, choosing-start, choosing-more, choosing-done}
 use Prim.Native.Nat.{_-_}
@@ -12,14 +13,8 @@ Inv-loop arena₀ o held s c a n k₀ i₀ arena k i = Choosing arena₀ o held 
 abbrev μ-loop : tie.MeasureT-loop
 μ-loop arena₀ o held s c a n k₀ i₀ arena k i = n - i
 
-loop-holds : tie.Need-loop-holds Inv-loop μ-loop
-loop-holds c = (choosing-start, search needs)
-
 loop-again : tie.Need-loop-again Inv-loop μ-loop
-loop-again c = (choosing-more (c .before .before .before .before .before .before .before .before .before .loop .inv .0) (c .before .before .before .before .before .before .before .before .loop-test .taken) (c .before .before .before .before .before .before .before .held-key .ensures) (c .before .before .before .before .optional-in-all .ensures) (c .before .before .put-if .ensures), c .before .before .put-if .kept .0 ∙ c .before .before .before .before .before .before .before .before .before .loop .inv .1)
-
-returns : tie.Need-returns Inv-loop μ-loop
-returns c = choosing-done (c .before .loop .inv .0) (c .loop-test .left)
+loop-again c = (search choosing-more, c .before .before .put-if .kept .0 ∙ c .before .before .before .before .before .before .before .before .before .loop .inv .1)
 
 pub write-optional-spec : {M : Type 1} → statement M
 write-optional-spec =
@@ -27,7 +22,7 @@ write-optional-spec =
     (tie.spec
     Inv-loop
     μ-loop
-    loop-holds
+    (λ c. (choosing-start, search needs))
     (λ c _. search needs)
     (λ c. search needs)
     (λ c _. search needs)
@@ -36,4 +31,4 @@ write-optional-spec =
     (λ c. search needs)
     loop-again
     (λ c. search needs)
-    returns)
+    (λ c. choosing-done (c .before .loop .inv .0) (c .loop-test .left)))

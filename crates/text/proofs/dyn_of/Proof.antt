@@ -20,7 +20,6 @@ pub dyn-of-spec : {M : Type 1} → statement M
 dyn-of-spec =
     tie.close
     (tie.spec
-    (λ c. search needs)
     (λ c _. search needs)
     (λ c. search needs)
     (λ c. search needs)

@@ -1,16 +1,15 @@
 -- `text::fields_of` meets its contract: the words written, and the fields left, make the whole row. Assumes nothing.
 use Prim.Native.Nat.{_-_}
-use lib.ListN.{length}
 use Rattle.text.proofs.Shaping.{Shaping, shape-start, shape-few, shape-room, shape-no, shape-more, shape-many, shape-place, shape-done}
 use borrow.Author.Needs.{needs}
 use Rattle.text.proofs.fields_of.Statement.{statement}
 use Rattle.text.proofs.fields_of.Tie as tie
 
 abbrev Inv-loop : tie.InvT-loop
-Inv-loop s from to tag shape words₀ top i₀ t₀ k₀ words i t k = Shaping s from to shape top words₀ words i t k
+Inv-loop s from to kinds kind words₀ top a n i₀ t₀ k₀ words i t k = Shaping s from to kinds kind n top words₀ words i t k
 
 abbrev μ-loop : tie.MeasureT-loop
-μ-loop s from to tag shape words₀ top i₀ t₀ k₀ words i t k = length shape - k
+μ-loop s from to kinds kind words₀ top a n i₀ t₀ k₀ words i t k = n - k
 
 loop-holds : tie.Need-loop-holds Inv-loop μ-loop
 loop-holds c = search shape-start
@@ -43,10 +42,16 @@ fields-of-spec =
     Inv-loop
     μ-loop
     (λ c. search needs)
+    (λ c. search needs)
+    (λ c. search needs)
+    (λ c. search needs)
+    (λ c. search needs)
     loop-holds
     (λ c. search needs)
     returns
     (λ c _. search needs)
+    (λ c. search needs)
+    (λ c. search needs)
     (λ c. search needs)
     field-of-requires
     (λ c. search needs)

@@ -29,7 +29,6 @@ pub list-of-spec : {M : Type 1} → statement M
 list-of-spec =
     tie.close
     (tie.spec
-    (λ c. search needs)
     (λ c _. search needs)
     (λ c. search needs)
     (λ c. search needs)

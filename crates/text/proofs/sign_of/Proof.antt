@@ -17,14 +17,12 @@ pub sign-of-spec : {M : Type 1} → statement M
 sign-of-spec =
     tie.close
     (tie.spec
-    (λ c. search needs)
     (λ c _. search needs)
     (λ c. search needs)
     (λ c. search needs)
     (λ c. search needs)
     (λ c. search needs)
     returns
-    (λ c. search needs)
     (λ c _. search needs)
     (λ c. search needs)
     (λ c. search needs)

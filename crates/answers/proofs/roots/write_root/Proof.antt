@@ -6,25 +6,29 @@ use Rattle.answers.proofs.roots.write_root.Tie as tie
 
 returns : tie.Need-returns
 returns c =
-    let write-refused = c .before .before .write-refused in
-    let enum-told = c .before .before .before .before .enum-told in
-    let canonicalize = c .before .before .before .before .before .before .before .before .before .before .before .before .canonicalize in
-    let polarity = c .before .before .before .before .before .before .before .before .before .before .before .before .before .polarity in
-    root-refused (canonicalize .ensures) (polarity .ensures) (enum-told .given .1) (canonicalize .kept .0) (write-refused .ensures)
+    let mid = c .before .before .before .before .before .before .before .before .before .before .before .before .before .before in
+    let canonicalize = mid .before .before .before .canonicalize in
+    let polarity = mid .before .before .before .before .polarity in
+    let s = c .before .before .before .before .before .before .before .before .before .s in
+    let slice-known6 = c .before .before .before .before .before .before .before .before .before .before .before .before .before .slice-known6 in
+    let fits = mid .before .before .before .before .before .before .before .before .before .before .before .before .before .fits in
+    let known-told = c .before .before .before .before .before .before .before .before .known-told in
+    let root-lines = c .before .before .before .before .root-lines in
+    root-shown (canonicalize .ensures) (polarity .ensures) (s .given .1) (canonicalize .kept .0) (canonicalize .kept .1 .1 .1 .0)
+    (λ k. omega (arith, slice-known6 .given k))
+    (omega (arith, fits .id), (omega (arith, fits .sign), (omega (arith, known-told .given), (omega (arith, known-told .given), tt)))) (root-lines .ensures)
 
 returns-2 : tie.Need-returns-2
 returns-2 c =
     let mid = c .before .before .before .before .before .before .before .before .before .before .before .before .before .before in
-    let root-lines = c .before .before .before .before .root-lines in
-    let known-told = c .before .before .before .before .before .before .before .before .known-told in
-    let answer = c .before .before .before .before .before .before .before .before .before .answer in
-    let slice-known6 = c .before .before .before .before .before .before .before .before .before .before .before .before .before .slice-known6 in
-    let canonicalize = mid .before .before .before .canonicalize in
-    let polarity = mid .before .before .before .before .polarity in
-    let fits = mid .before .before .before .before .before .before .before .before .before .before .before .before .before .fits in
-    root-shown (canonicalize .ensures) (polarity .ensures) (answer .given .1) (canonicalize .kept .0) (canonicalize .kept .1 .1 .1 .0)
-    (λ k. omega (arith, slice-known6 .given k))
-    (omega (arith, fits .id), (omega (arith, fits .sign), (omega (arith, known-told .given), (omega (arith, known-told .given), tt)))) (root-lines .ensures)
+    let canonicalize = c .before .before .before .before .before .before .before .before .before .before .before .before .before .canonicalize in
+    let polarity = mid .polarity in
+    let k = c .before .before .before .before .before .k in
+    let fits = mid .before .before .before .before .before .before .before .before .before .fits in
+    let known-told2 = c .before .before .before .before .known-told2 in
+    let refused-root = c .before .before .refused-root in
+    root-refused (canonicalize .ensures) (polarity .ensures) (k .given .1) (canonicalize .kept .0)
+    (omega (arith, fits .id), (omega (arith, fits .sign), (omega (arith, known-told2 .given), tt))) (refused-root .ensures)
 
 pub write-root-spec : {M : Type 1} → statement M
 write-root-spec =
@@ -33,6 +37,7 @@ write-root-spec =
     (λ c _. search needs)
     (λ c _. search needs)
     (λ c. search needs)
+    (λ c _. search needs)
     (λ c. search needs)
     (λ c _. search needs)
     (λ c. search needs)
@@ -40,7 +45,6 @@ write-root-spec =
     (λ c. search needs)
     (λ c. search needs)
     returns
-    (λ c _. search needs)
     (λ c. search needs)
     (λ c. search needs)
     (λ c. search needs)

@@ -231,13 +231,23 @@ abbrev visit-calls : ℕ → visit-lts.Claims
 visit-calls t = (variable-reads.Asked, variable-reads.Learnt, count-one-reads.Asked, count-one-reads.Learnt, exceeds-reads.Asked, exceeds-reads.Learnt, bail-reads.Asked, bail-reads.Learnt, slot-reads.Asked, slot-reads.Learnt, at-reads.Asked, at-reads.Learnt, set-reads.Asked, set-reads.Learnt, rule-below t, rule.Post, cached-reads.Asked, cached-reads.Learnt)
 
 again-returns : (t : ℕ) → again-lts.Need-returns (again-calls t) (again-at t) again.Post
-again-returns t c = again-bottom (c .before .before .before .before .before .before .before .t2 .given .1) (c .before .before .before .before .before .either-variable .ensures) (not-true _ (c .before .before .before .before .if1 .taken)) (c .before .before .store-leaf .ensures)
+again-returns t c =
+    let store-leaf = c .before .before in
+    let if1 = store-leaf .before .before in
+    let either-variable = if1 .before in
+    let t2 = either-variable .before .before in
+    again-bottom (t2 .t2 .given .1) (either-variable .either-variable .ensures) (not-true _ (if1 .if1 .taken)) (store-leaf .store-leaf .ensures)
 
 again-returns-2 : (t : ℕ) → again-lts.Need-returns-2 (again-calls t) (again-at t) again.Post
 again-returns-2 t c = again-node (c .before .t .given .1)
 
 again-returns-3 : (t : ℕ) → again-lts.Need-returns-3 (again-calls t) (again-at t) again.Post
-again-returns-3 t c = again-retry (c .before .before .before .before .before .before .before .before .before .before .t2 .given .1) (c .before .before .before .before .before .before .before .before .either-variable .ensures) (not-false _ (c .before .before .before .before .before .before .before .if1 .left)) (c .before .before .before .before .retry .ensures)
+again-returns-3 t c =
+    let retry = c .before .before .before .before in
+    let if1 = retry .before .before .before in
+    let either-variable = if1 .before in
+    let t2 = either-variable .before .before in
+    again-retry (t2 .t2 .given .1) (either-variable .either-variable .ensures) (not-false _ (if1 .if1 .left)) (retry .retry .ensures)
 
 again-returns-4 : (t : ℕ) → again-lts.Need-returns-4 (again-calls t) (again-at t) again.Post
 again-returns-4 t c = again-refused (c .before .t3 .given .1)
@@ -260,10 +270,30 @@ each-add-i : (t : ℕ) → each-lts.Need-add-i (each-calls t) (each-at t) each.P
 each-add-i t c = omega (arith, c .before .before .before .before .before .before .before .before .before .before .before .before .before .before .before .before .before .before .before .before .before .loop .inv .0, c .before .before .before .before .before .before .before .before .before .before .before .before .before .before .before .before .before .before .before .before .loop-test .taken)
 
 each-loop-again : (t : ℕ) → each-lts.Need-loop-again (each-calls t) (each-at t) each.Post each-Inv-loop each-μ-loop
-each-loop-again t c = (c .before .before .before .before .before .before .before .before .before .before .before .before .before .before .before .before .before .before .before .before .before .loop .inv .0, eaching-more (c .before .before .before .before .before .before .before .before .before .before .before .before .before .before .before .before .before .before .before .before .before .loop .inv .1) (c .before .before .before .before .before .before .before .before .before .before .before .before .before .before .before .before .before .before .before .before .loop-test .taken) (c .before .before .before .before .before .before .before .before .before .before .before .before .before .before .before .before .before .before .place .ensures) (c .before .before .before .before .before .before .before .before .before .before .before .before .before .before .before .before .before .get .ensures) (c .before .before .before .before .before .before .before .before .before .before .before .before .before .before .add .ensures) (c .before .before .before .before .before .before .before .before .before .before .before .before .before .side .ensures) (c .before .before .before .before .before .before .before .before .before .before .before .before .visit .ensures) (c .before .before .before .before .before .before .x .given .1) (c .before .before .before .before .before .before .before .before .before .before .before .before .visit .kept .1 .1 .0) (c .before .before .before .before .before .before .before .before .before .before .before .before .visit .kept .1 .1 .1 .0) (c .before .before .before .place2 .ensures) (c .before .before .put .ensures))
+each-loop-again t c =
+    let put = c .before .before in
+    let place2 = put .before in
+    let x = place2 .before .before .before in
+    let visit = x .before .before .before .before .before .before in
+    let side = visit .before in
+    let add = side .before in
+    let get = add .before .before .before in
+    let place = get .before in
+    let loop-test = place .before .before in
+    let loop = loop-test .before in
+    (loop .loop .inv .0, eaching-more (loop .loop .inv .1) (loop-test .loop-test .taken) (place .place .ensures) (get .get .ensures) (add .add .ensures) (side .side .ensures) (visit .visit .ensures) (x .x .given .1) (visit .visit .kept .1 .1 .0) (visit .visit .kept .1 .1 .1 .0) (place2 .place2 .ensures) (put .put .ensures))
 
 each-returns : (t : ℕ) → each-lts.Need-returns (each-calls t) (each-at t) each.Post each-Inv-loop each-μ-loop
-each-returns t c = each-refused (c .before .before .before .before .before .before .before .before .before .before .before .before .before .before .before .before .loop .inv .1) (c .before .before .before .before .before .before .before .before .before .before .before .before .before .before .before .loop-test .taken) (c .before .before .before .before .before .before .before .before .before .before .before .before .before .place .ensures) (c .before .before .before .before .before .before .before .before .before .before .before .before .get .ensures) (c .before .before .before .before .before .before .before .before .before .add .ensures) (c .before .before .before .before .before .before .before .before .side .ensures) (c .before .before .before .before .before .before .before .visit .ensures) (c .before .k .given .1)
+each-returns t c =
+    let visit = c .before .before .before .before .before .before .before in
+    let side = visit .before in
+    let add = side .before in
+    let get = add .before .before .before in
+    let place = get .before in
+    let loop-test = place .before .before in
+    let loop = loop-test .before in
+    each-refused (loop .loop .inv .1) (loop-test .loop-test .taken) (place .place .ensures) (get .get .ensures) (add .add .ensures) (side .side .ensures)
+    (visit .visit .ensures) (c .before .k .given .1)
 
 each-returns-2 : (t : ℕ) → each-lts.Need-returns-2 (each-calls t) (each-at t) each.Post each-Inv-loop each-μ-loop
 each-returns-2 t c = each-done (c .before .loop .inv .1) (c .loop-test .left)
@@ -272,7 +302,11 @@ expand-returns : (t : ℕ) → expand-lts.Need-returns (expand-calls t) (expand-
 expand-returns t c = expands-node (c .before .before .before .before .before .before .before .gathered .ensures) (c .before .x .given .1)
 
 expand-returns-2 : (t : ℕ) → expand-lts.Need-returns-2 (expand-calls t) (expand-at t) expand.Post
-expand-returns-2 t c = expands-empty (c .before .before .before .before .before .before .before .before .before .before .before .before .before .before .gathered .ensures) (c .before .before .before .before .before .before .before .before .r .given .1) (c .before .before .before .before .before .before .before .before .before .before .before .before .before .before .gathered .kept .1 .1 .1 .0) (c .before .before .before .before .fallback .ensures)
+expand-returns-2 t c =
+    let fallback = c .before .before .before .before in
+    let r = fallback .before .before .before .before in
+    let gathered = r .before .before .before .before .before .before in
+    expands-empty (gathered .gathered .ensures) (r .r .given .1) (gathered .gathered .kept .1 .1 .1 .0) (fallback .fallback .ensures)
 
 expand-returns-3 : (t : ℕ) → expand-lts.Need-returns-3 (expand-calls t) (expand-at t) expand.Post
 expand-returns-3 t c = expands-refused (c .before .before .before .before .before .before .before .gathered .ensures) (c .before .k .given .1)
@@ -281,16 +315,40 @@ fallback-returns : (t : ℕ) → fallback-lts.Need-returns (fallback-calls t) (f
 fallback-returns t c = falls-spent (c .before .before .before .before .if1 .taken) (c .before .before .variable .ensures)
 
 fallback-returns-2 : (t : ℕ) → fallback-lts.Need-returns-2 (fallback-calls t) (fallback-at t) fallback.Post
-fallback-returns-2 t c = falls-cut (c .before .before .before .before .before .before .before .before .before .before .if1 .left) (c .before .before .before .before .before .before .before .before .begin-list .ensures) (c .before .before .before .before .before .is-cut .ensures) (c .before .before .before .before .if2 .taken) (c .before .before .variable2 .ensures)
+fallback-returns-2 t c =
+    let variable2 = c .before .before in
+    let if2 = variable2 .before .before in
+    let is-cut = if2 .before in
+    let begin-list = is-cut .before .before .before in
+    let if1 = begin-list .before .before in
+    falls-cut (if1 .if1 .left) (begin-list .begin-list .ensures) (is-cut .is-cut .ensures) (if2 .if2 .taken) (variable2 .variable2 .ensures)
 
 fallback-returns-3 : (t : ℕ) → fallback-lts.Need-returns-3 (fallback-calls t) (fallback-at t) fallback.Post
-fallback-returns-3 t c = falls-on (c .before .before .before .before .before .before .before .before .before .before .before .before .before .before .before .if1 .left) (c .before .before .before .before .before .before .before .before .before .before .before .before .before .begin-list .ensures) (c .before .before .before .before .before .before .before .before .before .before .before .before .before .begin-list .kept .1 .1 .0) (c .before .before .before .before .before .before .before .before .before .before .is-cut .ensures) (c .before .before .before .before .before .before .before .before .before .if2 .left) (c .before .before .before .before .before .before .before .before .begin .ensures) (c .before .before .before .before .before .flip .ensures) (c .before .before .before .before .expand .ensures)
+fallback-returns-3 t c =
+    let expand = c .before .before .before .before in
+    let flip = expand .before in
+    let begin = flip .before .before .before in
+    let if2 = begin .before in
+    let is-cut = if2 .before in
+    let begin-list = is-cut .before .before .before in
+    let if1 = begin-list .before .before in
+    falls-on (if1 .if1 .left) (begin-list .begin-list .ensures) (begin-list .begin-list .kept .1 .1 .0) (is-cut .is-cut .ensures) (if2 .if2 .left)
+    (begin .begin .ensures) (flip .flip .ensures) (expand .expand .ensures)
 
 gathered-returns : (t : ℕ) → gathered-lts.Need-returns (gathered-calls t) (gathered-at t) gathered.Post
-gathered-returns t c = gathers (c .before .before .before .before .before .before .before .before .before .before .before .before .before .before .before .before .deduplicated .ensures) (c .before .before .before .before .before .before .before .before .before .before .before .before .before .before .before .before .deduplicated .kept .0) (c .before .before .before .before .before .before .before .before .before .before .before .each .ensures) (c .before .before .before .before .before .before .before .before .before .before .before .each .kept .1 .1 .1 .0) (c .before .before .before .before .normalize .ensures)
+gathered-returns t c =
+    let normalize = c .before .before .before .before in
+    let each = normalize .before .before .before .before .before .before .before in
+    let deduplicated = each .before .before .before .before .before in
+    gathers (deduplicated .deduplicated .ensures) (deduplicated .deduplicated .kept .0) (each .each .ensures) (each .each .kept .1 .1 .1 .0)
+    (normalize .normalize .ensures)
 
 inner-returns : (t : ℕ) → inner-lts.Need-returns (inner-calls t) (inner-at t) inner.Post
-inner-returns t c = inner-named (c .before .before .before .before .before .before .before .before .before .before .named-bound .ensures) (c .before .before .before .before .before .before .before .before .b .given .1) (c .before .before .before .before .visit .ensures)
+inner-returns t c =
+    let visit = c .before .before .before .before in
+    let b = visit .before .before .before .before in
+    let named-bound = b .before .before in
+    inner-named (named-bound .named-bound .ensures) (b .b .given .1) (visit .visit .ensures)
 
 inner-returns-2 : (t : ℕ) → inner-lts.Need-returns-2 (inner-calls t) (inner-at t) inner.Post
 inner-returns-2 t c = search inner-variable
@@ -302,10 +360,24 @@ inter-again-requires : (t : ℕ) → inter-lts.Need-again-requires (inter-calls 
 inter-again-requires t c κs = (omega (arith, c .before .before .before .before .before .before .before .before .before .before .before .before .before .before .before .before .before .before .before .before .before .before .before .pre .0), tt)
 
 inter-returns : (t : ℕ) → inter-lts.Need-returns (inter-calls t) (inter-at t) inter.Post
-inter-returns t c = inters (c .before .before .before .before .before .before .before .before .before .before .before .before .before .before .before .before .before .before .before .before .before .before .before .hold-two .ensures) (c .before .before .before .before .before .before .before .before .before .before .before .before .before .before .before .before .before .before .each .ensures) (c .before .before .before .before .before .before .before .before .before .before .before .inter-tried .ensures) (c .before .before .before .before .again .ensures) (c .before .before .before .before .before .before .before .before .before .before .before .before .before .before .before .before .before .before .before .before .before .before .before .hold-two .kept .0) (c .before .before .before .before .before .before .before .before .before .before .before .before .before .before .before .before .before .before .each .kept .1 .1 .1 .0) (c .before .before .before .before .before .before .before .before .before .before .before .inter-tried .kept .1 .1 .1 .0)
+inter-returns t c =
+    let again = c .before .before .before .before in
+    let inter-tried = again .before .before .before .before .before .before .before in
+    let each = inter-tried .before .before .before .before .before .before .before in
+    let hold-two = each .before .before .before .before .before in
+    inters (hold-two .hold-two .ensures) (each .each .ensures) (inter-tried .inter-tried .ensures) (again .again .ensures) (hold-two .hold-two .kept .0)
+    (each .each .kept .1 .1 .1 .0) (inter-tried .inter-tried .kept .1 .1 .1 .0)
 
 retry-returns : (t : ℕ) → retry-lts.Need-returns (retry-calls t) (retry-at t) retry.Post
-retry-returns t c = retries (c .before .before .before .before .before .before .before .before .before .before .before .before .before .before .before .before .before .before .before .before .before .before .hold-two .ensures) (c .before .before .before .before .before .before .before .before .before .before .before .before .before .before .before .before .before .before .before .turned .ensures) (c .before .before .before .before .before .before .before .before .before .before .before .before .before .before .before .before .before .before .turned2 .ensures) (c .before .before .before .before .before .before .before .before .before .before .before .before .before .before .before .each .ensures) (c .before .before .before .before .before .before .before .before .inter-tried .ensures) (c .before .before .retried .ensures) (c .before .before .before .before .before .before .before .before .before .before .before .before .before .before .before .before .before .before .before .before .before .before .hold-two .kept .0) (c .before .before .before .before .before .before .before .before .before .before .before .before .before .before .before .each .kept .1 .1 .1 .0) (c .before .before .before .before .before .before .before .before .inter-tried .kept .1 .1 .1 .0)
+retry-returns t c =
+    let retried = c .before .before in
+    let inter-tried = retried .before .before .before .before .before .before in
+    let each = inter-tried .before .before .before .before .before .before .before in
+    let turned2 = each .before .before .before in
+    let turned = turned2 .before in
+    let hold-two = turned .before .before .before in
+    retries (hold-two .hold-two .ensures) (turned .turned .ensures) (turned2 .turned2 .ensures) (each .each .ensures) (inter-tried .inter-tried .ensures)
+    (retried .retried .ensures) (hold-two .hold-two .kept .0) (each .each .kept .1 .1 .1 .0) (inter-tried .inter-tried .kept .1 .1 .1 .0)
 
 rule-returns : (t : ℕ) → rule-lts.Need-returns (rule-calls t) (rule-at t) rule.Post
 rule-returns t c = search rules-variable
@@ -320,19 +392,68 @@ visit-returns : (t : ℕ) → visit-lts.Need-returns (visit-calls t) (visit-at t
 visit-returns t c = visits-bailed (c .before .before .before .before .if1 .taken) (c .before .before .variable .ensures)
 
 visit-returns-2 : (t : ℕ) → visit-lts.Need-returns-2 (visit-calls t) (visit-at t) visit.Post
-visit-returns-2 t c = visits-over (c .before .before .before .before .before .before .before .before .if1 .left) (c .before .before .before .before .before .before .before .count-one .ensures) (c .before .before .before .before .before .before .exceeds .ensures) (c .before .before .before .before .before .if2 .taken) (c .before .before .before .bail .ensures) (c .before .before .variable2 .ensures)
+visit-returns-2 t c =
+    let variable2 = c .before .before in
+    let bail = variable2 .before in
+    let if2 = bail .before .before in
+    let exceeds = if2 .before in
+    let count-one = exceeds .before in
+    let if1 = count-one .before in
+    visits-over (if1 .if1 .left) (count-one .count-one .ensures) (exceeds .exceeds .ensures) (if2 .if2 .taken) (bail .bail .ensures)
+    (variable2 .variable2 .ensures)
 
 visit-returns-3 : (t : ℕ) → visit-lts.Need-returns-3 (visit-calls t) (visit-at t) visit.Post
-visit-returns-3 t c = visits-busy (c .before .before .before .before .before .before .before .before .before .before .before .if1 .left) (c .before .before .before .before .before .before .before .before .before .before .count-one .ensures) (c .before .before .before .before .before .before .before .before .before .exceeds .ensures) (c .before .before .before .before .before .before .before .before .if2 .left) (c .before .before .before .before .before .before .before .slot .ensures) (c .before .before .before .before .before .at .ensures) (c .before .before .before .before .if3 .taken) (c .before .before .variable3 .ensures)
+visit-returns-3 t c =
+    let variable3 = c .before .before in
+    let if3 = variable3 .before .before in
+    let at = if3 .before in
+    let slot = at .before .before in
+    let if2 = slot .before in
+    let exceeds = if2 .before in
+    let count-one = exceeds .before in
+    let if1 = count-one .before in
+    visits-busy (if1 .if1 .left) (count-one .count-one .ensures) (exceeds .exceeds .ensures) (if2 .if2 .left) (slot .slot .ensures) (at .at .ensures)
+    (if3 .if3 .taken) (variable3 .variable3 .ensures)
 
 visit-returns-4 : (t : ℕ) → visit-lts.Need-returns-4 (visit-calls t) (visit-at t) visit.Post
-visit-returns-4 t c = visits-cached (c .before .before .before .before .before .before .before .before .if1 .left) (c .before .before .before .before .before .before .before .count-one .ensures) (c .before .before .before .before .before .before .exceeds .ensures) (c .before .before .before .before .before .if2 .left) (c .before .before .before .before .slot .ensures) (c .before .before .at .ensures) (c .if4 .taken)
+visit-returns-4 t c =
+    let at = c .before .before in
+    let slot = at .before .before in
+    let if2 = slot .before in
+    let exceeds = if2 .before in
+    let count-one = exceeds .before in
+    let if1 = count-one .before in
+    visits-cached (if1 .if1 .left) (count-one .count-one .ensures) (exceeds .exceeds .ensures) (if2 .if2 .left) (slot .slot .ensures) (at .at .ensures)
+    (c .if4 .taken)
 
 visit-returns-5 : (t : ℕ) → visit-lts.Need-returns-5 (visit-calls t) (visit-at t) visit.Post
-visit-returns-5 t c = visits-full (c .before .before .before .before .before .before .before .before .before .if1 .left) (c .before .before .before .before .before .before .before .before .count-one .ensures) (c .before .before .before .before .before .before .before .exceeds .ensures) (c .before .before .before .before .before .before .if2 .left) (c .before .before .before .before .before .slot .ensures) (c .before .before .before .at .ensures) (c .before .before .if3 .left) (c .before .if4 .left) (c .if5 .taken)
+visit-returns-5 t c =
+    let if3 = c .before .before in
+    let at = if3 .before in
+    let slot = at .before .before in
+    let if2 = slot .before in
+    let exceeds = if2 .before in
+    let count-one = exceeds .before in
+    let if1 = count-one .before in
+    visits-full (if1 .if1 .left) (count-one .count-one .ensures) (exceeds .exceeds .ensures) (if2 .if2 .left) (slot .slot .ensures) (at .at .ensures)
+    (if3 .if3 .left) (c .before .if4 .left) (c .if5 .taken)
 
 visit-returns-6 : (t : ℕ) → visit-lts.Need-returns-6 (visit-calls t) (visit-at t) visit.Post
-visit-returns-6 t c = visits-works (c .before .before .before .before .before .before .before .before .before .before .before .before .before .before .before .before .before .before .before .before .before .before .before .before .if1 .left) (c .before .before .before .before .before .before .before .before .before .before .before .before .before .before .before .before .before .before .before .before .before .before .before .count-one .ensures) (c .before .before .before .before .before .before .before .before .before .before .before .before .before .before .before .before .before .before .before .before .before .before .exceeds .ensures) (c .before .before .before .before .before .before .before .before .before .before .before .before .before .before .before .before .before .before .before .before .before .if2 .left) (c .before .before .before .before .before .before .before .before .before .before .before .before .before .before .before .before .before .before .before .before .slot .ensures) (c .before .before .before .before .before .before .before .before .before .before .before .before .before .before .before .before .before .before .at .ensures) (c .before .before .before .before .before .before .before .before .before .before .before .before .before .before .before .before .before .if3 .left) (c .before .before .before .before .before .before .before .before .before .before .before .before .before .before .before .before .if4 .left) (c .before .before .before .before .before .before .before .before .before .before .before .before .before .before .before .if5 .left) (c .before .before .before .before .before .before .before .before .before .before .before .before .before .set .ensures) (c .before .before .before .before .before .before .before .before .rule .ensures) (c .before .before .before .before .before .before .before .before .rule .kept .1 .1 .1 .0) (c .before .before .cached .ensures)
+visit-returns-6 t c =
+    let cached = c .before .before in
+    let rule = cached .before .before .before .before .before .before in
+    let at-set = rule .before .before .before .before .before in
+    let if5 = at-set .before .before in
+    let if4 = if5 .before in
+    let if3 = if4 .before in
+    let at = if3 .before in
+    let slot = at .before .before in
+    let if2 = slot .before in
+    let exceeds = if2 .before in
+    let count-one = exceeds .before in
+    let if1 = count-one .before in
+    visits-works (if1 .if1 .left) (count-one .count-one .ensures) (exceeds .exceeds .ensures) (if2 .if2 .left) (slot .slot .ensures) (at .at .ensures)
+    (if3 .if3 .left) (if4 .if4 .left) (if5 .if5 .left) (at-set .set .ensures) (rule .rule .ensures) (rule .rule .kept .1 .1 .1 .0) (cached .cached .ensures)
 
 pub +again+children+each+expand+fallback+gathered+inner+inter+retry+rule+visit-spec :
     {M : Type 1} → statement M

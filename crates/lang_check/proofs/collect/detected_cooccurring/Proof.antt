@@ -14,7 +14,12 @@ loop-holds : tie.Need-loop-holds Inv-loop μ-loop
 loop-holds c = detecting-start
 
 loop-again : tie.Need-loop-again Inv-loop μ-loop
-loop-again c = detecting-more (c .before .before .before .before .before .before .loop .inv) (c .before .before .before .before .before .loop-test .taken) (c .before .before .before .preserve-if-both .ensures) (c .or .ensures) (c .before .before .before .preserve-if-both .kept .0)
+loop-again c =
+    let preserve-if-both = c .before .before .before in
+    let loop-test = preserve-if-both .before .before in
+    let loop = loop-test .before in
+    detecting-more (loop .loop .inv) (loop-test .loop-test .taken) (preserve-if-both .preserve-if-both .ensures) (c .or .ensures)
+    (preserve-if-both .preserve-if-both .kept .0)
 
 returns : tie.Need-returns Inv-loop μ-loop
 returns c = search detecting-done

@@ -5,10 +5,24 @@ use Rattle.lang_check.proofs.collect.one_pass.Statement.{statement}
 use Rattle.lang_check.proofs.collect.one_pass.Tie as tie
 
 same-length-2 : tie.Need-same-length-2
-same-length-2 c = c .before .before .before .before .visit .kept .1 .1 .1 .0 ∙ c .before .before .before .before .before .before .before .before .before .before .before .before .before .before .clear3 .kept .0 ∙ c .before .before .before .before .before .before .before .before .before .before .before .before .before .before .before .before .before .before .clear2 .kept .0 ∙ c .before .before .before .before .before .before .before .before .before .before .before .before .before .before .before .before .before .before .before .before .before .before .clear .kept .0
+same-length-2 c =
+    let visit = c .before .before .before .before in
+    let clear3 = visit .before .before .before .before .before .before .before .before .before .before in
+    let clear2 = clear3 .before .before .before .before in
+    let clear = clear2 .before .before .before .before in
+    visit .visit .kept .1 .1 .1 .0 ∙ clear3 .clear3 .kept .0 ∙ clear2 .clear2 .kept .0 ∙ clear .clear .kept .0
 
 returns : tie.Need-returns
-returns c = one-pass (c .before .before .before .before .before .before .before .before .before .before .before .before .before .before .before .before .before .before .before .before .before .before .before .add .ensures) (c .before .before .before .before .before .before .before .before .before .before .before .before .before .before .before .before .before .before .before .before .before .before .clear .ensures) (c .before .before .before .before .before .before .before .before .before .before .before .before .before .before .before .before .before .before .clear2 .ensures) (c .before .before .before .before .before .before .before .before .before .before .before .before .before .before .clear3 .ensures) (c .before .before .before .before .before .before .before .before .before .before .set .ensures) (c .before .before .before .before .before .none-counted .ensures) (c .before .before .before .before .visit .ensures) (c .before .before .before .before .before .before .before .before .before .before .before .before .before .before .before .before .before .before .before .before .before .before .clear .kept .0) (c .before .before .before .before .before .before .before .before .before .before .before .before .before .before .before .before .before .before .clear2 .kept .0) (c .before .before .before .before .before .before .before .before .before .before .before .before .before .before .clear3 .kept .0)
+returns c =
+    let visit = c .before .before .before .before in
+    let none-counted = visit .before in
+    let at-set = none-counted .before .before .before .before .before in
+    let clear3 = at-set .before .before .before .before in
+    let clear2 = clear3 .before .before .before .before in
+    let clear = clear2 .before .before .before .before in
+    let add = clear .before in
+    one-pass (add .add .ensures) (clear .clear .ensures) (clear2 .clear2 .ensures) (clear3 .clear3 .ensures) (at-set .set .ensures)
+    (none-counted .none-counted .ensures) (visit .visit .ensures) (clear .clear .kept .0) (clear2 .clear2 .kept .0) (clear3 .clear3 .kept .0)
 
 pub one-pass-spec : {M : Type 1} → statement M
 one-pass-spec =

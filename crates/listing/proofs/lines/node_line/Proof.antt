@@ -13,6 +13,7 @@ node-line-spec =
     (λ c _. search needs)
     (λ c _. search needs)
     (λ c _. search needs)
+    (λ c. search needs)
     (λ c _. search needs)
     (λ c _. search needs)
     (λ c _. search needs)

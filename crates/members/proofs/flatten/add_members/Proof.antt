@@ -1,3 +1,4 @@
+-- What was collected is what the rules collect of the first i members.
 use Rattle.members.proofs.Flattened.{Adding, adding-start, adding-more, adding-done}
 use borrow.Author.Needs.{needs}
 use Prim.Native.Nat.{_-_}
@@ -12,14 +13,8 @@ Inv-loop arena out₀ k x n got₀ i₀ out got i = Adding arena out₀ k x n ou
 abbrev μ-loop : tie.MeasureT-loop
 μ-loop arena out₀ k x n got₀ i₀ out got i = n - i
 
-loop-holds : tie.Need-loop-holds Inv-loop μ-loop
-loop-holds c = (adding-start, search needs)
-
 loop-again : tie.Need-loop-again Inv-loop μ-loop
 loop-again c = (adding-more (c .before .before .before .before .before .before .before .count .ensures) (c .before .before .before .before .before .before .loop .inv .0) (c .before .before .before .before .before .loop-test .taken) (c .before .before .before .member .ensures) (c .before .before .add-new .ensures), search needs)
-
-returns : tie.Need-returns Inv-loop μ-loop
-returns c = adding-done (c .before .before .count .ensures) (c .before .loop .inv .0) (c .loop-test .left)
 
 pub add-members-spec : {M : Type 1} → statement M
 add-members-spec =
@@ -28,11 +23,11 @@ add-members-spec =
     Inv-loop
     μ-loop
     (λ c _. search needs)
-    loop-holds
+    (λ c. (adding-start, search needs))
     (λ c _. search needs)
     (λ c _. search needs)
     (λ c. search needs)
     (λ c. search needs)
     loop-again
     (λ c. search needs)
-    returns)
+    (λ c. adding-done (c .before .before .count .ensures) (c .before .loop .inv .0) (c .loop-test .left)))

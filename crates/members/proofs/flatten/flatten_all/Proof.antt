@@ -1,3 +1,4 @@
+-- What was collected is what the rules collect of the first i members.
 use Rattle.members.proofs.Flattened.{Flattening, flattening-start, flattening-more, flattening-done}
 use lib.ListN.{length}
 use mathlib.Core.Path.{_≡_}
@@ -12,14 +13,8 @@ Inv-loop arena kind ms n out₀ k₀ i₀ out k i = Flattening kind arena ms n o
 abbrev μ-loop : tie.MeasureT-loop
 μ-loop arena kind ms n out₀ k₀ i₀ out k i = n - i
 
-loop-holds : tie.Need-loop-holds Inv-loop μ-loop
-loop-holds c = (flattening-start, search needs)
-
 loop-again : tie.Need-loop-again Inv-loop μ-loop
 loop-again c = (flattening-more (c .before .before .before .before .before .before .loop .inv .0) (c .before .before .before .before .before .loop-test .taken) (c .before .before .before .at .ensures) (c .before .flatten-one .ensures), search needs)
-
-returns : tie.Need-returns Inv-loop μ-loop
-returns c = flattening-done (c .before .loop .inv .0) (c .loop-test .left)
 
 pub flatten-all-spec : {M : Type 1} → statement M
 flatten-all-spec =
@@ -27,7 +22,7 @@ flatten-all-spec =
     (tie.spec
     Inv-loop
     μ-loop
-    loop-holds
+    (λ c. (flattening-start, search needs))
     (λ c. search needs)
     (λ c _. search needs)
     (λ c. search needs)
@@ -35,4 +30,4 @@ flatten-all-spec =
     (λ c. search needs)
     (λ c. search needs)
     loop-again
-    returns)
+    (λ c. flattening-done (c .before .loop .inv .0) (c .loop-test .left)))

@@ -3,12 +3,6 @@ use borrow.Author.Needs.{needs}
 use Rattle.members.proofs.flatten.flatten_one.Statement.{statement}
 use Rattle.members.proofs.flatten.flatten_one.Tie as tie
 
-returns : tie.Need-returns
-returns c = search one-nested
-
-returns-2 : tie.Need-returns-2
-returns-2 c = search one-plain
-
 pub flatten-one-spec : {M : Type 1} → statement M
 flatten-one-spec =
     tie.close
@@ -16,7 +10,7 @@ flatten-one-spec =
     (λ c _. search needs)
     (λ c _. search needs)
     (λ c. search needs)
-    returns
+    (λ c. search one-nested)
     (λ c _. search needs)
     (λ c. search needs)
-    returns-2)
+    (λ c. search one-plain))

@@ -1,27 +1,22 @@
+-- The search of Gathered at the test of a kind, which takes nothing for granted.
 use Rattle.rules.specs.Types.{is}
-use Rattle.members.proofs.Gathered.{Searching, searching-start, searching-here, searching-more, searching-done, is-tried}
+use Rattle.members.proofs.Gathered.{Searching, searching-start, searching-here, searching-more, searching-done, alone}
 use borrow.Author.Needs.{needs}
 use Prim.Native.Nat.{_-_}
 use Rattle.members.proofs.lists.any_of_kind.Statement.{statement}
 use Rattle.members.proofs.lists.any_of_kind.Tie as tie
 
 abbrev Inv-loop : tie.InvT-loop
-Inv-loop arena kind ms n i₀ i = Searching (λ ns xs. is ns kind) arena ms n i
+Inv-loop arena kind ms n i₀ i = Searching alone (λ _ ns. is ns kind) arena ms 0 n i
 
 abbrev μ-loop : tie.MeasureT-loop
 μ-loop arena kind ms n i₀ i = n - i
 
-loop-holds : tie.Need-loop-holds Inv-loop μ-loop
-loop-holds c = search searching-start
-
 returns : tie.Need-returns Inv-loop μ-loop
-returns c = searching-here (c .before .before .before .before .before .loop .inv) (c .before .before .before .before .loop-test .taken) (c .before .before .at .ensures) (is-tried (c .before .is .ensures)) (c .if1 .taken)
+returns c = record { is = λ h t. searching-here (c .before .before .before .before .before .loop .inv) (c .before .before .before .before .loop-test .taken) (c .before .before .at .ensures) (record { is = λ a h p lt. c .before .is .ensures .is h lt }) (c .if1 .taken) .is tt h tt t }
 
 loop-again : tie.Need-loop-again Inv-loop μ-loop
-loop-again c = searching-more (c .before .before .before .before .before .loop .inv) (c .before .before .before .before .loop-test .taken) (c .before .before .at .ensures) (is-tried (c .before .is .ensures)) (c .if1 .left)
-
-returns-2 : tie.Need-returns-2 Inv-loop μ-loop
-returns-2 c = searching-done (c .before .loop .inv) (c .loop-test .left)
+loop-again c = searching-more (c .before .before .before .before .before .loop .inv) (c .before .before .before .before .loop-test .taken) (c .before .before .at .ensures) (record { is = λ a h p lt. c .before .is .ensures .is h lt }) (c .if1 .left)
 
 pub any-of-kind-spec : {M : Type 1} → statement M
 any-of-kind-spec =
@@ -29,7 +24,7 @@ any-of-kind-spec =
     (tie.spec
     Inv-loop
     μ-loop
-    loop-holds
+    (λ c. search searching-start)
     (λ c. search needs)
     (λ c _. search needs)
     (λ c _. search needs)
@@ -37,4 +32,4 @@ any-of-kind-spec =
     (λ c. search needs)
     (λ c. search needs)
     loop-again
-    returns-2)
+    (λ c. record { is = λ h t. searching-done (c .before .loop .inv) (c .loop-test .left) .is tt h tt t }))

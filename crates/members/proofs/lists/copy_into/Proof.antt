@@ -1,3 +1,4 @@
+-- The first i members stand behind the first k cells, which are as they were, as long as they fit.
 use native.Mathlib.Omega.{arith}
 use Rattle.members.proofs.Gathered.{Filling, filling-start, filling-more, copied-is}
 use borrow.Author.Needs.{needs}
@@ -11,14 +12,8 @@ Inv-loop out₀ k ms n i₀ out i = Filling k ms 0 n out₀ out i
 abbrev μ-loop : tie.MeasureT-loop
 μ-loop out₀ k ms n i₀ out i = n - i
 
-loop-holds : tie.Need-loop-holds Inv-loop μ-loop
-loop-holds c = search filling-start
-
 loop-again : tie.Need-loop-again Inv-loop μ-loop
 loop-again c = filling-more (c .before .before .before .before .before .before .before .before .loop .inv) (c .before .before .before .before .before .before .before .loop-test .taken) (c .before .before .before .before .before .place .ensures) (omega arith) (c .before .before .before .at .ensures) (c .before .before .put .ensures)
-
-returns : tie.Need-returns Inv-loop μ-loop
-returns c = copied-is (c .before .before .loop .inv) (c .before .loop-test .left) (c .add .ensures)
 
 pub copy-into-spec : {M : Type 1} → statement M
 copy-into-spec =
@@ -26,7 +21,7 @@ copy-into-spec =
     (tie.spec
     Inv-loop
     μ-loop
-    loop-holds
+    (λ c. search filling-start)
     (λ c _. search needs)
     (λ c. search needs)
     (λ c _. search needs)
@@ -36,4 +31,4 @@ copy-into-spec =
     loop-again
     (λ c _. search needs)
     (λ c. search needs)
-    returns)
+    (λ c. copied-is (c .before .before .loop .inv) (c .before .loop-test .left) (c .add .ensures)))

@@ -3,15 +3,6 @@ use borrow.Author.Needs.{needs}
 use Rattle.members.proofs.lists.grow.Statement.{statement}
 use Rattle.members.proofs.lists.grow.Tie as tie
 
-returns : tie.Need-returns
-returns c = search grow-nothing
-
-returns-2 : tie.Need-returns-2
-returns-2 c = search grow-one
-
-returns-3 : tie.Need-returns-3
-returns-3 c = search grow-refused
-
 pub grow-spec : {M : Type 1} → statement M
 grow-spec =
     tie.close
@@ -21,7 +12,7 @@ grow-spec =
     (λ c _. search needs)
     (λ c _. search needs)
     (λ c. search needs)
-    returns
+    (λ c. search grow-nothing)
     (λ c. search needs)
-    returns-2
-    returns-3)
+    (λ c. search grow-one)
+    (λ c. search grow-refused))

@@ -1,3 +1,4 @@
+-- The first i cells stand where they belong, as long as they fit.
 use Rattle.members.proofs.Gathered.{Filling, filling-start, filling-more, held-is}
 use native.Mathlib.Omega.{arith}
 use borrow.Author.Needs.{needs}
@@ -11,14 +12,8 @@ Inv-loop s h n out₀ i₀ out i = Filling 0 s h n out₀ out i
 abbrev μ-loop : tie.MeasureT-loop
 μ-loop s h n out₀ i₀ out i = n - i
 
-loop-holds : tie.Need-loop-holds Inv-loop μ-loop
-loop-holds c = search filling-start
-
 loop-again : tie.Need-loop-again Inv-loop μ-loop
 loop-again c = filling-more (c .before .before .before .before .before .before .loop .inv) (c .before .before .before .before .before .loop-test .taken) (omega arith) (c .before .before .before .place .ensures) (c .before .before .get .ensures) (c .before .set .ensures)
-
-returns : tie.Need-returns Inv-loop μ-loop
-returns c = held-is (c .before .loop .inv) (c .loop-test .left)
 
 pub held-spec : {M : Type 1} → statement M
 held-spec =
@@ -26,7 +21,7 @@ held-spec =
     (tie.spec
     Inv-loop
     μ-loop
-    loop-holds
+    (λ c. search filling-start)
     (λ c. search needs)
     (λ c _. search needs)
     (λ c _. search needs)
@@ -34,4 +29,4 @@ held-spec =
     (λ c. search needs)
     (λ c. search needs)
     loop-again
-    returns)
+    (λ c. held-is (c .before .loop .inv) (c .loop-test .left)))

@@ -3,9 +3,6 @@ use borrow.Author.Needs.{needs}
 use Rattle.members.proofs.lists.joined.Statement.{statement}
 use Rattle.members.proofs.lists.joined.Tie as tie
 
-returns : tie.Need-returns
-returns c = search joined-is
-
 pub joined-spec : {M : Type 1} → statement M
 joined-spec =
     tie.close
@@ -14,4 +11,4 @@ joined-spec =
     (λ c _. search needs)
     (λ c. search needs)
     (λ c _. search needs)
-    returns)
+    (λ c. search joined-is))

@@ -1,3 +1,4 @@
+-- It ends since a member's number is below its node's. What is held from h on are the negations of the first i members.
 use Rattle.members.proofs.Negated.{Negating, negates-neg, negating-start, negates-never, negating-more, negates-refused, negates-done}
 use native.Mathlib.Omega.{arith}
 use borrow.Author.Needs.{needs}

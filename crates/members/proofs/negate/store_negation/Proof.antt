@@ -3,12 +3,6 @@ use borrow.Author.Needs.{needs}
 use Rattle.members.proofs.negate.store_negation.Statement.{statement}
 use Rattle.members.proofs.negate.store_negation.Tie as tie
 
-returns : tie.Need-returns
-returns c = search negation-wraps
-
-returns-2 : tie.Need-returns-2
-returns-2 c = search negation-turns
-
 pub store-negation-spec : {M : Type 1} → statement M
 store-negation-spec =
     tie.close
@@ -20,9 +14,9 @@ store-negation-spec =
     (λ c _. search needs)
     (λ c. search needs)
     (λ c. search needs)
-    returns
+    (λ c. search negation-wraps)
     (λ c _. search needs)
     (λ c _. search needs)
     (λ c. search needs)
     (λ c. search needs)
-    returns-2)
+    (λ c. search negation-turns))

@@ -3,12 +3,6 @@ use borrow.Author.Needs.{needs}
 use Rattle.members.proofs.negate.stored.Statement.{statement}
 use Rattle.members.proofs.negate.stored.Tie as tie
 
-returns : tie.Need-returns
-returns c = search entered-node
-
-returns-2 : tie.Need-returns-2
-returns-2 c = search entered-refused
-
 pub stored-spec : {M : Type 1} → statement M
 stored-spec =
-    tie.close (tie.spec (λ c. search needs) (λ c _. search needs) (λ c. search needs) (λ c. search needs) returns returns-2)
+    tie.close (tie.spec (λ c. search needs) (λ c _. search needs) (λ c. search needs) (λ c. search needs) (λ c. search entered-node) (λ c. search entered-refused))

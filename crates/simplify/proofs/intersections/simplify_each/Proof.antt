@@ -1,3 +1,4 @@
+-- The loop of Partway; its step is the rules' simplifying of one member.
 use Rattle.simplify.proofs.Simplified.{Simplifying, simplifying-start, simplifying-more, simplifying-refused, simplifying-done}
 use mathlib.Core.Path.{_≡_}
 use lib.ListN.{length}
@@ -12,17 +13,8 @@ Inv-loop arena₀ ms n out₀ k₀ q₀ i₀ arena out k q i = Simplifying arena
 abbrev μ-loop : tie.MeasureT-loop
 μ-loop arena₀ ms n out₀ k₀ q₀ i₀ arena out k q i = n - i
 
-loop-holds : tie.Need-loop-holds Inv-loop μ-loop
-loop-holds c = (simplifying-start, search needs, search needs)
-
-loop-again : tie.Need-loop-again Inv-loop μ-loop
-loop-again c = (search simplifying-more, search needs, search needs)
-
 returns : tie.Need-returns Inv-loop μ-loop
 returns c = simplifying-refused (c .before .before .before .before .before .before .before .before .before .before .before .before .loop .inv .0) (c .before .before .before .before .before .before .before .before .before .before .before .loop-test .taken) (c .before .before .before .before .before .before .before .simplify-one .ensures) (c .before .before .why .given .1) (c .refused .ensures)
-
-returns-2 : tie.Need-returns-2 Inv-loop μ-loop
-returns-2 c = simplifying-done (c .before .loop .inv .0) (c .loop-test .left)
 
 pub simplify-each-spec : {M : Type 1} → statement M
 simplify-each-spec =
@@ -30,17 +22,17 @@ simplify-each-spec =
     (tie.spec
     Inv-loop
     μ-loop
-    loop-holds
+    (λ c. (simplifying-start, search needs, search needs))
     (λ c. search needs)
     (λ c. search needs)
     (λ c _. search needs)
     (λ c. search needs)
     (λ c. search needs)
     (λ c. search needs)
-    loop-again
+    (λ c. (search simplifying-more, search needs, search needs))
     (λ c. search needs)
     (λ c _. search needs)
     (λ c. search needs)
     returns
     (λ c. search needs)
-    returns-2)
+    (λ c. simplifying-done (c .before .loop .inv .0) (c .loop-test .left)))

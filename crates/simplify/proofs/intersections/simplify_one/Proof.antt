@@ -3,10 +3,7 @@ use borrow.Author.Needs.{needs}
 use Rattle.simplify.proofs.intersections.simplify_one.Statement.{statement}
 use Rattle.simplify.proofs.intersections.simplify_one.Tie as tie
 
-returns : tie.Need-returns
-returns c = search simplified-into
-
 pub simplify-one-spec : {M : Type 1} → statement M
 simplify-one-spec =
     tie.close
-    (tie.spec (λ c _. search needs) (λ c _. search needs) (λ c _. search needs) (λ c. search needs) (λ c. search needs) returns)
+    (tie.spec (λ c _. search needs) (λ c _. search needs) (λ c _. search needs) (λ c. search needs) (λ c. search needs) (λ c. search simplified-into))

@@ -1,3 +1,4 @@
+-- The places marked are those that the rules have taken up after the first i members.
 use Rattle.simplify.proofs.Marked.{Absorbing, absorbing-start, absorbing-more, absorbing-done}
 use mathlib.Core.Path.{_≡_}
 use lib.ListN.{length}
@@ -12,12 +13,6 @@ Inv-loop arena m ms n gone₀ i₀ gone i = Absorbing arena ms n gone i × (leng
 abbrev μ-loop : tie.MeasureT-loop
 μ-loop arena m ms n gone₀ i₀ gone i = n - i
 
-loop-holds : tie.Need-loop-holds Inv-loop μ-loop
-loop-holds c = (absorbing-start, search needs)
-
-loop-again : tie.Need-loop-again Inv-loop μ-loop
-loop-again c = (search absorbing-more, search needs)
-
 returns : tie.Need-returns Inv-loop μ-loop
 returns c = absorbing-done (c .before .before .before .loop .inv .0) (c .before .before .loop-test .left) (c .left .ensures)
 
@@ -27,13 +22,13 @@ absorb-subsumed-union-members-spec =
     (tie.spec
     Inv-loop
     μ-loop
-    loop-holds
+    (λ c. (absorbing-start, search needs))
     (λ c. search needs)
     (λ c. search needs)
     (λ c _. search needs)
     (λ c. search needs)
     (λ c. search needs)
-    loop-again
+    (λ c. (search absorbing-more, search needs))
     (λ c. search needs)
     (λ c _. search needs)
     returns)

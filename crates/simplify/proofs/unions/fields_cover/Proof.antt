@@ -1,3 +1,4 @@
+-- The fields from i on are covered exactly if all are.
 use Rattle.simplify.proofs.Absorbed.{Covering, covering-start, covering-lacks, covering-more, covering-done}
 use Prim.Native.Nat.{_-_}
 use borrow.Author.Needs.{needs}
@@ -10,18 +11,6 @@ Inv-loop words a b n i₀ i = Covering words a b n i
 abbrev μ-loop : tie.MeasureT-loop
 μ-loop words a b n i₀ i = n - i
 
-loop-holds : tie.Need-loop-holds Inv-loop μ-loop
-loop-holds c = search covering-start
-
-returns : tie.Need-returns Inv-loop μ-loop
-returns c = search covering-lacks
-
-loop-again : tie.Need-loop-again Inv-loop μ-loop
-loop-again c = search covering-more
-
-returns-2 : tie.Need-returns-2 Inv-loop μ-loop
-returns-2 c = search covering-done
-
 pub fields-cover-spec : {M : Type 1} → statement M
 fields-cover-spec =
     tie.close
@@ -29,11 +18,11 @@ fields-cover-spec =
     Inv-loop
     μ-loop
     (λ c _. search needs)
-    loop-holds
+    (λ c. search covering-start)
     (λ c _. search needs)
     (λ c _. search needs)
-    returns
+    (λ c. search covering-lacks)
     (λ c. search needs)
     (λ c. search needs)
-    loop-again
-    returns-2)
+    (λ c. search covering-more)
+    (λ c. search covering-done))

@@ -1,3 +1,4 @@
+-- The places marked are those that the rules have taken up after the first j places.
 use Rattle.simplify.proofs.Marked.{taken-gone, taken-none, Marking, marking-start, marking-more, marking-done}
 use mathlib.Core.Path.{_≡_}
 use lib.ListN.{length}
@@ -12,21 +13,6 @@ Inv-loop arena s n i gone₀ x j₀ gone j = Marking arena s n i x gone₀ gone 
 abbrev μ-loop : tie.MeasureT-loop
 μ-loop arena s n i gone₀ x j₀ gone j = n - j
 
-returns : tie.Need-returns Inv-loop μ-loop
-returns c = search taken-gone
-
-returns-2 : tie.Need-returns-2 Inv-loop μ-loop
-returns-2 c = search taken-none
-
-loop-holds : tie.Need-loop-holds Inv-loop μ-loop
-loop-holds c = (marking-start, search needs)
-
-loop-again : tie.Need-loop-again Inv-loop μ-loop
-loop-again c = (search marking-more, search needs)
-
-returns-3 : tie.Need-returns-3 Inv-loop μ-loop
-returns-3 c = search marking-done
-
 pub mark-taken-spec : {M : Type 1} → statement M
 mark-taken-spec =
     tie.close
@@ -35,16 +21,16 @@ mark-taken-spec =
     μ-loop
     (λ c _. search needs)
     (λ c. search needs)
-    returns
+    (λ c. search taken-gone)
     (λ c _. search needs)
     (λ c _. search needs)
     (λ c. search needs)
-    returns-2
-    loop-holds
+    (λ c. search taken-none)
+    (λ c. (marking-start, search needs))
     (λ c _. search needs)
     (λ c _. search needs)
     (λ c. search needs)
     (λ c. search needs)
-    loop-again
+    (λ c. (search marking-more, search needs))
     (λ c. search needs)
-    returns-3)
+    (λ c. search marking-done))

@@ -3,34 +3,19 @@ use borrow.Author.Needs.{needs}
 use Rattle.simplify.proofs.unions.subsumes.Statement.{statement}
 use Rattle.simplify.proofs.unions.subsumes.Tie as tie
 
-returns : tie.Need-returns
-returns c = search subsumes-other
-
-returns-2 : tie.Need-returns-2
-returns-2 c = search subsumes-closed
-
-returns-3 : tie.Need-returns-3
-returns-3 c = search subsumes-shut
-
-returns-4 : tie.Need-returns-4
-returns-4 c = search subsumes-dyn
-
-returns-5 : tie.Need-returns-5
-returns-5 c = search subsumes-fields
-
 pub subsumes-spec : {M : Type 1} → statement M
 subsumes-spec =
     tie.close
     (tie.spec
     (λ c _. search needs)
-    returns
+    (λ c. search subsumes-other)
     (λ c _. search needs)
     (λ c _. search needs)
     (λ c _. search needs)
-    returns-2
+    (λ c. search subsumes-closed)
     (λ c _. search needs)
-    returns-3
+    (λ c. search subsumes-shut)
     (λ c _. search needs)
-    returns-4
+    (λ c. search subsumes-dyn)
     (λ c _. search needs)
-    returns-5)
+    (λ c. search subsumes-fields))

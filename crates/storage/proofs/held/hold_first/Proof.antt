@@ -5,7 +5,12 @@ use Rattle.storage.proofs.held.hold_first.Statement.{statement}
 use Rattle.storage.proofs.held.hold_first.Tie as tie
 
 returns : tie.Need-returns
-returns c = first-is (c .before .before .before .before .before .before .before .before .before .before .place .ensures) (c .before .before .before .before .before .before .before .before .get .ensures) (c .before .before .before .before .before .before .put .ensures) refl (c .before .before .hold-if .ensures)
+returns c =
+    let hold-if = c .before .before in
+    let put = hold-if .before .before .before .before in
+    let get = put .before .before in
+    let place = get .before .before in
+    first-is (place .place .ensures) (get .get .ensures) (put .put .ensures) refl (hold-if .hold-if .ensures)
 
 pub hold-first-spec : {M : Type 1} → statement M
 hold-first-spec =

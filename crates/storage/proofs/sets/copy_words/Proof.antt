@@ -14,7 +14,15 @@ loop-holds : tie.Need-loop-holds Inv-loop μ-loop
 loop-holds c = search copying-start
 
 loop-again : tie.Need-loop-again Inv-loop μ-loop
-loop-again c = copying-more (c .before .before .before .before .before .before .before .before .loop .inv) (c .before .before .before .before .before .before .before .loop-test .taken) (copied (c .before .before .before .before .before .place .ensures) (c .before .before .before .before .place2 .ensures) (c .before .before .before .get .ensures) (c .before .before .put .ensures))
+loop-again c =
+    let put = c .before .before in
+    let get = put .before in
+    let place2 = get .before in
+    let place = place2 .before in
+    let loop-test = place .before .before in
+    let loop = loop-test .before in
+    copying-more (loop .loop .inv) (loop-test .loop-test .taken)
+    (copied (place .place .ensures) (place2 .place2 .ensures) (get .get .ensures) (put .put .ensures))
 
 returns : tie.Need-returns Inv-loop μ-loop
 returns c = search copying-done

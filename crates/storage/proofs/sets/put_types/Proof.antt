@@ -14,7 +14,17 @@ loop-holds : tie.Need-loop-holds Inv-loop μ-loop
 loop-holds c = putting-start
 
 loop-again : tie.Need-loop-again Inv-loop μ-loop
-loop-again c = putting-more (c .before .before .before .before .before .before .before .before .before .before .loop .inv) (c .before .before .before .before .before .before .before .before .before .loop-test .taken) (c .before .before .before .before .before .before .before .add .ensures) (c .before .before .before .before .before .before .add2 .ensures) (c .before .before .before .before .before .place .ensures) (c .before .before .before .before .place2 .ensures) (c .before .before .before .get .ensures) (c .before .before .put .ensures)
+loop-again c =
+    let put = c .before .before in
+    let get = put .before in
+    let place2 = get .before in
+    let place = place2 .before in
+    let add2 = place .before in
+    let add = add2 .before in
+    let loop-test = add .before .before in
+    let loop = loop-test .before in
+    putting-more (loop .loop .inv) (loop-test .loop-test .taken) (add .add .ensures) (add2 .add2 .ensures) (place .place .ensures) (place2 .place2 .ensures)
+    (get .get .ensures) (put .put .ensures)
 
 returns : tie.Need-returns Inv-loop μ-loop
 returns c = search putting-done

@@ -4,7 +4,26 @@ use Rattle.storage.proofs.sets.store_set.Statement.{statement}
 use Rattle.storage.proofs.sets.store_set.Tie as tie
 
 returns : tie.Need-returns
-returns c = stores-set (c .before .before .before .before .before .before .before .before .before .before .before .before .before .before .before .before .before .before .before .before .before .before .before .before .before .before .before .before .before .before .before .fields .ensures) (c .before .before .before .before .before .before .before .before .before .before .before .before .before .before .before .before .before .before .before .before .before .before .before .before .before .before .before .before .before .before .dyns .ensures) (c .before .before .before .before .before .before .before .before .before .before .before .before .before .before .before .before .before .before .before .before .before .before .before .before .before .before .before .before .before .optionals .ensures) (c .before .before .before .before .before .before .before .before .before .before .before .before .before .before .before .before .before .before .before .before .before .before .before .before .before .before .before .before .add .ensures) (c .before .before .before .before .before .before .before .before .before .before .before .before .before .before .before .before .before .before .before .before .before .before .before .before .before .before .before .add2 .ensures) (c .before .before .before .before .before .before .before .before .before .before .before .before .before .before .before .before .before .before .before .before .before .before .before .before .before .before .add3 .ensures) (c .before .before .before .before .before .before .before .before .before .before .before .before .before .before .before .before .before .before .before .before .before .before .before .before .before .add4 .ensures) (c .before .before .before .before .before .before .before .before .before .before .before .before .before .before .before .before .before .before .before .before .before .before .before .top .ensures) (c .before .before .before .before .before .before .before .before .before .before .before .before .before .before .before .before .before .before .before .before .before .before .add5 .ensures) (c .before .before .before .before .before .before .before .before .before .before .before .before .before .before .before .before .before .before .before .before .set .ensures) (c .before .before .before .before .before .before .before .before .before .before .before .before .before .before .before .before .copy-words .ensures) (c .before .before .before .before .before .before .before .before .before .before .before .before .put-types .ensures) (c .before .before .before .before .before .before .before .before .put-dyn .ensures) (c .before .before .before .before .add6 .ensures) (c .before .before .before .add7 .ensures) (c .before .before .intern .ensures)
+returns c =
+    let intern = c .before .before in
+    let add7 = intern .before in
+    let add6 = add7 .before in
+    let put-dyn = add6 .before .before .before .before in
+    let put-types = put-dyn .before .before .before .before in
+    let copy-words = put-types .before .before .before .before in
+    let at-set = copy-words .before .before .before .before in
+    let add5 = at-set .before .before in
+    let top = add5 .before in
+    let add4 = top .before .before in
+    let add3 = add4 .before in
+    let add2 = add3 .before in
+    let add = add2 .before in
+    let optionals = add .before in
+    let dyns = optionals .before in
+    let fields = dyns .before in
+    stores-set (fields .fields .ensures) (dyns .dyns .ensures) (optionals .optionals .ensures) (add .add .ensures) (add2 .add2 .ensures) (add3 .add3 .ensures)
+    (add4 .add4 .ensures) (top .top .ensures) (add5 .add5 .ensures) (at-set .set .ensures) (copy-words .copy-words .ensures) (put-types .put-types .ensures)
+    (put-dyn .put-dyn .ensures) (add6 .add6 .ensures) (add7 .add7 .ensures) (intern .intern .ensures)
 
 pub store-set-spec : {M : Type 1} → statement M
 store-set-spec =

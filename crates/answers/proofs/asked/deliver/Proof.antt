@@ -1,0 +1,60 @@
+use Rattle.answers.proofs.Asking.{deliver-none, deliver-anew, deliver-copy}
+use borrow.Author.Needs.{needs}
+use Rattle.answers.proofs.asked.deliver.Statement.{statement}
+use Rattle.answers.proofs.asked.deliver.Tie as tie
+
+returns : tie.Need-returns
+returns c =
+    let mid = c .before .before .before .before .before .before .before .before .before .before .before .before .before .before in
+    let clear = mid .before .before .clear in
+    let write-asked = c .before .before .before .before .before .before .before .before .before .write-asked in
+    deliver-none (clear .kept .0) (write-asked .ensures) (c .if1 .taken)
+
+returns-2 : tie.Need-returns-2
+returns-2 c =
+    let mid = c .before .before .before .before .before .before .before .before .before .before .before .before .before .before in
+    let low = mid .before .before .before .before .before .before .before .before .before .before .before .before .before .before in
+    let clear = low .before .before .clear in
+    let write-asked = mid .before .before .before .before .before .before .before .before .before .write-asked in
+    let if1 = mid .if1 in
+    let write-asked2 = c .before .before .before .before .before .before .before .before .write-asked2 in
+    deliver-anew (clear .kept .0) (write-asked .ensures) (write-asked .kept .1 .1 .1 .1 .1 .0) (write-asked .kept .1 .1 .1 .1 .1 .1 .0) (if1 .left)
+    (write-asked2 .ensures)
+
+returns-3 : tie.Need-returns-3
+returns-3 c =
+    let mid = c .before .before .before .before .before .before .before .before .before .before .before .before .before .before in
+    let clear = mid .before .before .before .before .before .before .before .before .clear in
+    let write-asked = mid .before .write-asked in
+    let if1 = c .before .before .before .before .before .before .if1 in
+    let if2 = c .before .before .before .before .before .if2 in
+    let copy = c .before .before .copy in
+    deliver-copy (clear .kept .0) (write-asked .ensures) (write-asked .kept .1 .0) (if1 .left) (if2 .left) (copy .ensures)
+
+pub deliver-spec : {M : Type 1} → statement M
+deliver-spec =
+    tie.close
+    (tie.spec
+    (λ c. search needs)
+    (λ c _. search needs)
+    (λ c _. search needs)
+    (λ c. search needs)
+    (λ c. search needs)
+    (λ c. search needs)
+    (λ c. search needs)
+    (λ c. search needs)
+    returns
+    (λ c _. search needs)
+    (λ c. search needs)
+    (λ c. search needs)
+    (λ c. search needs)
+    (λ c. search needs)
+    (λ c. search needs)
+    returns-2
+    (λ c _. search needs)
+    (λ c. search needs)
+    (λ c. search needs)
+    (λ c. search needs)
+    (λ c. search needs)
+    (λ c. search needs)
+    returns-3)

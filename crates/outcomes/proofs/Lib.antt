@@ -1,0 +1,2 @@
+-- What callers' proofs cite.
+pub mod Promises
