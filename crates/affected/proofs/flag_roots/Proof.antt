@@ -1,3 +1,4 @@
+-- The flags of the first i roots are the marks of their entries, and no cell before the flags or after those of i roots has changed.
 use Rattle.affected.proofs.Reaching.{Flagging, flagging-start, flagging-more, flagging-done}
 use borrow.Author.Needs.{needs}
 use Prim.Native.Nat.{_-_}

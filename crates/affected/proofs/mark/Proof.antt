@@ -1,3 +1,4 @@
+-- Just the entries in the queue are marked: one with a mark stands there already, and one without gets its mark and its place together.
 use Rattle.affected.proofs.Queueing.{mark-old, mark-new}
 use borrow.Author.Needs.{needs}
 use Rattle.affected.proofs.mark.Statement.{statement}

@@ -1,3 +1,4 @@
+-- Marking what is left of the chain of links marks all of it; the links' numbers fall along the chain, so n turns come to its end.
 use Rattle.affected.proofs.Queueing.{Before, before-start, before-more, before-done, before-end}
 use borrow.Author.Needs.{needs}
 use Prim.Native.Nat.{_-_}

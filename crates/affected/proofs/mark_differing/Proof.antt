@@ -1,3 +1,4 @@
+-- Marking those from x on that differ is all that is left to do.
 use Rattle.affected.proofs.Queueing.{Differing, differing-start, differing-more, differing-done}
 use borrow.Author.Needs.{needs}
 use Prim.Native.Nat.{_-_}

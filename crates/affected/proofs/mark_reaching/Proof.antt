@@ -1,3 +1,4 @@
+-- A link goes from an entry to an id in it, so what links lead backwards to, from the entries that differ, is what has a chain to one.
 use Rattle.affected.proofs.Reaching.{reaching-is}
 use borrow.Author.Needs.{needs}
 use Rattle.affected.proofs.mark_reaching.Statement.{statement}

@@ -1,3 +1,4 @@
+-- Every entry with a link to one of the first i in the queue is in the queue; each stands there once, so count turns come to its end.
 use Rattle.affected.proofs.Reaching.{Spreading, spreading-start, spreading-more, spreading-done, spreading-end}
 use borrow.Author.Needs.{needs}
 use Prim.Native.Nat.{_-_}

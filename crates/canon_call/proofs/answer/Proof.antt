@@ -1,3 +1,4 @@
+-- What was found so far settles the rules' call on each way out, in their order: short scratch, the table's text, whether it has the root, the text.
 use native.Mathlib.Omega.{arith}
 use Rattle.outcomes.proofs.Promises.{long-enough}
 use Rattle.canon_call.proofs.Calling.{short-answer, refused-answer, no-entry, delivered}

@@ -1,3 +1,4 @@
+-- `answer` leaves every slice as long as it was, so there are as many zeros as cells were lent.
 use Rattle.canon_call.proofs.Calling.{calls}
 use borrow.Author.Needs.{needs}
 use Rattle.canon_call.proofs.call.Statement.{statement}

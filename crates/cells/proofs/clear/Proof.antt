@@ -1,3 +1,4 @@
+-- The first i of the n cells are zero and the others are as before; past the end of the slice a cell reads 0 anyway.
 use Rattle.cells.proofs.Clearing.{Clearing, clearing-start, clearing-more, clearing-done}
 use borrow.Author.Needs.{needs}
 use Prim.Native.Nat.{_-_}

@@ -1,3 +1,4 @@
+-- Rows of one kind are the same exactly if what the rules make of them is, so comparing the rows section by section says what the rules say.
 use Rattle.compare.proofs.Comparing.{counts-other, budget-other, names-other, pairs-other, marks-other, roots-last}
 use borrow.Author.Needs.{needs}
 use Rattle.compare.proofs.comparable.Statement.{statement}

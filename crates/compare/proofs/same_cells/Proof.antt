@@ -1,3 +1,4 @@
+-- The cells from i on are the same exactly if all are.
 use Rattle.compare.proofs.Comparing.{Cells, cells-start, cells-other, cells-more, cells-done}
 use borrow.Author.Needs.{needs}
 use Prim.Native.Nat.{_-_}

@@ -1,3 +1,4 @@
+-- The rows from the i-th on are the same exactly if all are.
 use Rattle.compare.proofs.Comparing.{Rows, rows-start, rows-other, rows-more, rows-done}
 use borrow.Author.Needs.{needs}
 use Prim.Native.Nat.{_-_}

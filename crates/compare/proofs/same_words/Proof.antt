@@ -1,3 +1,4 @@
+-- The words after the first begin one cell later; where that sum does not fit, the row has no more words and both parts are empty.
 use Rattle.compare.proofs.Comparing.{words-same}
 use borrow.Author.Needs.{needs}
 use native.Mathlib.Omega.{arith}

@@ -1,9 +1,9 @@
+-- A record has a byte at least, so the place moves on at each turn, and the counts, which never pass it, do not wrap.
 use Prim.Native.Nat.{_-_, _≤_}
 use borrow.Author.Needs.{needs}
 use Rattle.examples.proofs.try_all.Statement.{statement}
 use Rattle.examples.proofs.try_all.Tie as tie
 
--- a record has a byte at least, so the counts do not wrap
 abbrev Inv-loop : tie.InvT-loop
 Inv-loop input n tried₀ differ₀ a₀ tried differ a = (a ≤ n) × (tried ≤ a) × (differ ≤ a)
 

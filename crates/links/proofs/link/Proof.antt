@@ -1,3 +1,4 @@
+-- The new link has a greater number than all before it and goes to the head of y's chain; no cell of an older link is written.
 use Rattle.links.proofs.Linking.{link-is}
 use borrow.Author.Needs.{needs}
 use Rattle.links.proofs.link.Statement.{statement}

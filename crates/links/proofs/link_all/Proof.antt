@@ -1,3 +1,4 @@
+-- The slice holds the links of the first x entries, as many as these have ids, so there is room for them.
 use Rattle.links.proofs.Linking.{LinkingAll, all-start, all-more, all-done}
 use borrow.Author.Needs.{needs}
 use Prim.Native.Nat.{_-_}

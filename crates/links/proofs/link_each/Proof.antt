@@ -1,3 +1,4 @@
+-- Links to the ids that are left, from p on, are all that is missing.
 use Rattle.links.proofs.Linking.{Linking, linking-start, linking-more, linking-done}
 use borrow.Author.Needs.{needs}
 use Prim.Native.Nat.{_-_}

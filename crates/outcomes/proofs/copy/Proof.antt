@@ -1,3 +1,4 @@
+-- The first i bytes are the draft's, and the rest is as found.
 use borrow.Author.Needs.{needs}
 use Prim.Native.Nat.{_-_}
 use Rattle.outcomes.proofs.Promises.{Copying, copying-start, copying-more, copying-done}

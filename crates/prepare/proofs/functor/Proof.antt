@@ -1,3 +1,4 @@
+-- The names from i on, counted from there, give the number that all names give.
 use Rattle.prepare.proofs.Facts.{Seeking, seeking-start, seeking-here, seeking-more, seeking-done}
 use borrow.Author.Needs.{needs}
 use Prim.Native.Nat.{_-_}

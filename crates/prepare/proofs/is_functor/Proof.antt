@@ -1,3 +1,4 @@
+-- A name of nine bytes has a row of ten words; the bytes that are left to compare are the same exactly if all are.
 use Rattle.prepare.proofs.Facts.{Spelling, spelling-start, spelling-more, spelling-other, spelling-done, functor-longer}
 use borrow.Author.Needs.{needs}
 use Prim.Native.Nat.{_-_}

@@ -1,3 +1,4 @@
+-- Only facts are written, and they lie before the rows: what was read stands there still, and runs read it as the rules read the table.
 use Rattle.prepare.proofs.Facts.{prepare-is}
 use borrow.Author.Needs.{needs}
 use Rattle.prepare.proofs.prepare.Statement.{statement}

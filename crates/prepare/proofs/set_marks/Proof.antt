@@ -1,3 +1,4 @@
+-- Setting the marks that are left gives what setting all gives; their rows lie after the cells that are set, so none of them changes.
 use Rattle.prepare.proofs.Facts.{Marking, marking-start, marking-more, marking-done}
 use borrow.Author.Needs.{needs}
 use Prim.Native.Nat.{_-_}

@@ -1,3 +1,4 @@
+-- Each search ends where the rules cut, so the three slices are their three parts; a part that is left out is empty in both.
 use mathlib.Core.Path.{sym}
 use lib.Seq.{length-take-le}
 use Rattle.programs.proofs.Showing.{parts-shown}

@@ -1,3 +1,4 @@
+-- All scratch is lent in full, so the call is not refused for want of it and comes to the rules' recheck.
 use Rattle.programs.proofs.Showing.{recheck-shown}
 use borrow.Author.Needs.{needs}
 use Rattle.programs.proofs.answer_recheck.Statement.{statement}

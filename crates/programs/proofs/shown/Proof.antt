@@ -1,3 +1,4 @@
+-- What was written stands at the beginning of the output, and the line of a refusal is always short enough for it.
 use native.Mathlib.Omega.{arith}
 use Rattle.programs.proofs.Showing.{shows-written, shows-refused}
 use borrow.Author.Needs.{needs}

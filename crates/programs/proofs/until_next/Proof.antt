@@ -1,3 +1,4 @@
+-- No line that begins before i is `next`: the rules' cut goes on from i, with what was passed as the part so far.
 use Prim.Native.Nat.{_-_}
 use Rattle.programs.proofs.Cutting.{Seeking, seeking-start, seeking-more, seeking-found, seeking-done}
 use borrow.Author.Needs.{needs}

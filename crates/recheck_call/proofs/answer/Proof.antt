@@ -1,3 +1,4 @@
+-- What was found so far settles the rules' call on each way out, in their order: short scratch, the old table, the new one, and what comes of both.
 use native.Mathlib.Omega.{arith}
 use Rattle.outcomes.proofs.Promises.{long-enough}
 use Rattle.recheck_call.proofs.Calling.{refused-new, compared-new, short-old, short-answer, refused-answer, new-answer}

@@ -1,3 +1,4 @@
+-- Tables that may be compared have as many lines of each kind, so the counts of the new one do for the old one too.
 use mathlib.Core.Path.{_∙_}
 use Rattle.recheck_call.proofs.Calling.{flagged, not-comparable, refused-old, listed-both}
 use borrow.Author.Needs.{needs}

@@ -1,3 +1,4 @@
+-- `answer` leaves every slice as long as it was, so there are as many zeros as cells were lent.
 use Rattle.recheck_call.proofs.Calling.{rechecked}
 use borrow.Author.Needs.{needs}
 use Rattle.recheck_call.proofs.recheck.Statement.{statement}

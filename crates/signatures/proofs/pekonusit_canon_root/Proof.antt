@@ -1,3 +1,4 @@
+-- The rules refuse no call with 0, so the number tells this outcome and no other.
 use Rattle.signatures.proofs.Codes.{canon-root-exported}
 use borrow.Author.Needs.{needs}
 use Rattle.signatures.proofs.pekonusit_canon_root.Statement.{statement}

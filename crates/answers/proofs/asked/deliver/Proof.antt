@@ -1,3 +1,4 @@
+-- The first writing tells how long the text is, even where the draft cannot hold it, and leaves the table as it was: a second one writes the same.
 use Rattle.answers.proofs.Asking.{deliver-none, deliver-anew, deliver-copy}
 use borrow.Author.Needs.{needs}
 use Rattle.answers.proofs.asked.deliver.Statement.{statement}

@@ -1,3 +1,4 @@
+-- With no root kept the lines of all roots are the rules' listing; with old lines among them, after the line of words, they are recheck's text.
 use Rattle.answers.proofs.Asking.{all-asked, root-asked, mixed-asked}
 use borrow.Author.Needs.{needs}
 use Rattle.answers.proofs.asked.write_asked.Statement.{statement}

@@ -1,3 +1,4 @@
+-- A part that ends before it begins is empty, and of one that ends past the listing nothing is promised.
 use Rattle.answers.proofs.Mixing.{old-none, old-past, old-some}
 use borrow.Author.Needs.{needs}
 use Rattle.answers.proofs.mixed.write_old.Statement.{statement}

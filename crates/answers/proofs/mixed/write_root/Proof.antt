@@ -1,3 +1,4 @@
+-- The root's flag tells which lines: those that are kept are a part of the old listing, the others come from a run of the id and sign in its row.
 use Rattle.answers.proofs.Mixing.{lines-kept, lines-redone}
 use borrow.Author.Needs.{needs}
 use Rattle.answers.proofs.mixed.write_root.Statement.{statement}

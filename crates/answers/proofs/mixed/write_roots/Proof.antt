@@ -1,3 +1,4 @@
+-- The lines of the first i roots are written; a run leaves the table as it was and the slices as long, and the next one needs no more than that.
 use native.Mathlib.Omega.{arith}
 use Prim.Native.Nat.{_-_, _≤_}
 use mathlib.Core.Path.{_≡_, refl, _∙_}

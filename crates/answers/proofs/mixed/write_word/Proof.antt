@@ -1,3 +1,4 @@
+-- A tab and a word written one after the other are one text, and the flag picks the word.
 use Rattle.answers.proofs.Mixing.{word-kept, word-redone}
 use borrow.Author.Needs.{needs}
 use Rattle.answers.proofs.mixed.write_word.Statement.{statement}

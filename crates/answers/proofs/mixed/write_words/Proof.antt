@@ -1,3 +1,4 @@
+-- The first i words are written from the beginning on, with a tab between any two.
 use borrow.Author.Needs.{needs}
 use Prim.Native.Nat.{_-_}
 use Rattle.answers.proofs.Mixing.{Worded, worded-start, worded-next, worded-done}

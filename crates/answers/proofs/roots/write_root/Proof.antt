@@ -1,3 +1,4 @@
+-- The nodes of an answer stand in the arena, so they are few and short enough for every position in their lines to be a number.
 use native.Mathlib.Omega.{arith}
 use Rattle.answers.proofs.Running.{root-shown, root-refused}
 use borrow.Author.Needs.{needs}

@@ -1,3 +1,4 @@
+-- The merge only adds nodes, so the first member before filtering is still a node when the list is settled.
 use Rattle.composites.proofs.NormalBounds.{intersection-on, intersection-off}
 use borrow.Author.Needs.{needs}
 use Rattle.composites.proofs.bounds.settle_intersection.Statement.{statement}

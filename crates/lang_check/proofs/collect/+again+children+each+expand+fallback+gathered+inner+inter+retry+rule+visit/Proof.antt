@@ -1,3 +1,5 @@
+-- The measure is 20 for each free key, a rank for each function, and 2 for each fallback that may still begin: `visit` takes a key, and at equal
+-- keys each calls only what counts less. In the loop of `each` the first i ids held are answers by now, and the rules are as far.
 use Rattle.lang_check.proofs.Rule.{children as makes-children, rules-variable, rules-inter, rules-made}
 use Rattle.lang_check.proofs.Visit.{visits-bailed, visits-over, visits-busy, visits-cached, visits-full, visits-works}
 use Rattle.lang_check.proofs.Expand.{gathers, expands-node, expands-empty, expands-refused, falls-spent, falls-cut, falls-on, inner-named, inner-variable, inner-bounds}

@@ -1,3 +1,4 @@
+-- The working slice has the bits of the first pass, so the set found there is the rules'; clearing it after the second leaves the table as it was.
 use borrow.Author.Tests.{not-true, not-false}
 use Rattle.lang_check.proofs.Passes.{canonicalizes-refused, canonicalizes-once, canonicalizes-twice}
 use borrow.Author.Needs.{needs}

@@ -1,3 +1,4 @@
+-- Of the first i variables those seen in both polarities are preserved, and no other cell has changed.
 use Rattle.lang_check.proofs.Passes.{Detecting, detecting-start, detecting-more, detecting-done}
 use Prim.Native.Nat.{_-_}
 use borrow.Author.Needs.{needs}

@@ -1,3 +1,4 @@
+-- Zeros for keys, bits and marks, and an arena without rows, stand for the rules' fresh state; the slice has room for all ids that a table may have.
 use mathlib.Core.Path.{_∙_}
 use Rattle.lang_check.proofs.Passes.{one-pass}
 use borrow.Author.Needs.{needs}

@@ -1,3 +1,4 @@
+-- Only variables, intersections and frozen entries are left to the last arm, and for those `made` of the contract says 5 too.
 use Rattle.lang_check.proofs.MadeOf.{one-primitive, one-tyvar, one-list, one-neg, one-named, one-refused}
 use borrow.Author.Needs.{needs}
 use Rattle.lang_check.proofs.made.made_of_one.Statement.{statement}

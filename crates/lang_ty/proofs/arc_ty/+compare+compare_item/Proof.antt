@@ -1,3 +1,4 @@
+-- They end since an item counts less than its node, and a child, whose number is smaller, less still. The items from i on decide as all do.
 use Prim.Native.Nat.{_*_, _+_, _-_}
 use Rattle.lang_ty.proofs.Compare.{Ordered, ordered-start, ordered-more, ordered-less, ordered-greater, ordered-done, kinds-decide, at-same, at-never, at-end, at-num, at-child-end, at-child-num, at-deeper}
 use borrow.Author.Needs.{needs}

@@ -1,3 +1,4 @@
+-- Among the fields each even item is a key and the next one its type; then comes their end, and the rest is counted from there.
 use Rattle.lang_ty.proofs.Items.{set-end-is, set-rest-is, set-key-is, set-type-is}
 use borrow.Author.Needs.{needs}
 use Rattle.lang_ty.proofs.arc_ty.set_item.Statement.{statement}

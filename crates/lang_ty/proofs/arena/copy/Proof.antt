@@ -1,3 +1,4 @@
+-- The first i numbers stand from t on, and no word before t has changed.
 use Rattle.lang_ty.proofs.Rows.{Copying, copying-start, copying-more, copying-done}
 use Prim.Native.Nat.{_-_}
 use borrow.Author.Needs.{needs}

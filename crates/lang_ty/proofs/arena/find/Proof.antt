@@ -1,3 +1,4 @@
+-- The search from row i on comes to what the search of all rows comes to.
 use Prim.Native.Nat.{_-_}
 use Rattle.lang_ty.proofs.Find.{Seeking, seeking-start, seeking-here, seeking-more, seeking-done}
 use borrow.Author.Needs.{needs}

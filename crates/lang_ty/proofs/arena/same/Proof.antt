@@ -1,3 +1,4 @@
+-- The words from i on are the same exactly if all are.
 use Prim.Native.Nat.{_-_}
 use Rattle.lang_ty.proofs.Find.{Comparing, comparing-start, comparing-more, comparing-other, comparing-done}
 use borrow.Author.Needs.{needs}

@@ -1,3 +1,4 @@
+-- k is among the words that are left, from p on, exactly if it is among all.
 use Rattle.lang_ty.proofs.Attrsets.{Looking, looking-start, looking-here, looking-more, looking-done}
 use Prim.Native.Nat.{_-_}
 use borrow.Author.Needs.{needs}

@@ -1,3 +1,4 @@
+-- One of the fields from i on is lacking exactly if one of all is.
 use Rattle.lang_ty.proofs.Shapes.{Lacking, lacks-open, lacking-start, lacking-here, lacking-more, lacking-done}
 use Prim.Native.Nat.{_-_}
 use borrow.Author.Needs.{needs}

@@ -1,3 +1,4 @@
+-- The first i fields are written, with a tab before the first and a comma before each other.
 use Rattle.listing.proofs.Listings.{FieldsWritten, fields-start, fields-more, fields-done, fields-none}
 use Prim.Native.Nat.{_-_}
 use borrow.Author.Needs.{needs}

@@ -1,3 +1,4 @@
+-- The first i keys are written, with a tab before the first and a comma before each other.
 use Rattle.listing.proofs.Listings.{Listing, listing-start, keys-more, listing-done, list-none}
 use Rattle.rules.specs.Text.{decimal}
 use Prim.Native.Nat.{_-_}

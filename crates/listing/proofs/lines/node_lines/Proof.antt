@@ -1,3 +1,4 @@
+-- The lines of the first k nodes of the walk are written.
 use Rattle.listing.proofs.NodeLines.{NodesWritten, nodes-start, node-lines-more, node-lines-done}
 use Prim.Native.Nat.{_-_}
 use borrow.Author.Needs.{needs}

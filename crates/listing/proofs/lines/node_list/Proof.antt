@@ -1,3 +1,4 @@
+-- The numbers of the first i nodes are written, with a tab before the first and a comma before each other.
 use Rattle.listing.proofs.Listings.{Listing, listing-start, nodes-more, listing-done, list-none}
 use Rattle.listing.specs.Printed.{numbered}
 use Prim.Native.Nat.{_-_}

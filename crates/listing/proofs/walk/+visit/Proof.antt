@@ -1,3 +1,4 @@
+-- It ends since a child's number is below its node's. After i children just the nodes that the walk reaches by then have numbers.
 use Rattle.listing.proofs.Numbering.{visits-seen, Visiting, visiting-start, visiting-more, visiting-past, visiting-done}
 use mathlib.Core.Logic.{⊎-elim}
 use borrow.Author.Needs.{needs}

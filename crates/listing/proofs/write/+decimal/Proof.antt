@@ -1,3 +1,4 @@
+-- It ends since n / 10 is below n; the digits of n are those of n / 10 and one more.
 use Rattle.listing.proofs.Texts.{decimal-one, decimal-two}
 use borrow.Author.Needs.{needs}
 use Prim.Native.Nat.{ℕ, _<_}

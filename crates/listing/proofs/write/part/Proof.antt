@@ -1,3 +1,4 @@
+-- The first k of the n bytes are written.
 use Rattle.listing.proofs.Texts.{Wording, wording-start, wording-more, wording-done}
 use Prim.Native.Nat.{_-_}
 use borrow.Author.Needs.{needs}

@@ -1,3 +1,4 @@
+-- Once there are more than fit, the count alone says so, and whatever else is added does not change that.
 use Rattle.members.proofs.Flattened.{new-full, new-there, new-here}
 use borrow.Author.Needs.{needs}
 use Rattle.members.proofs.flatten.add_new.Statement.{statement}

@@ -1,3 +1,4 @@
+-- The counters begin as the pass has them and are read at the end; the pass's marks stay as they were.
 use Rattle.members.proofs.Negated.{output-node, output-refused}
 use borrow.Author.Needs.{needs}
 use Rattle.members.proofs.negate.negate_output_ty.Statement.{statement}

@@ -1,3 +1,4 @@
+-- The store reads no marks of a pass, so one that is made of the two counters, with no marks, does as well.
 use Rattle.members.proofs.Negated.{negation-wraps, negation-turns}
 use borrow.Author.Needs.{needs}
 use Rattle.members.proofs.negate.store_negation.Statement.{statement}

@@ -1,3 +1,4 @@
+-- The rules' two lists, the positives and what the Negs hold, are not made: a search of the members asks the same of them.
 use Rattle.simplify.proofs.Cancelled.{cancel-none, cancel-held, cancel-not, cancel-pair}
 use borrow.Author.Needs.{needs}
 use Rattle.simplify.proofs.beside.is_cancelled.Statement.{statement}

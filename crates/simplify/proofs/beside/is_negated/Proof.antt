@@ -1,3 +1,4 @@
+-- Asking each member what it holds, if it is a Neg, is asking the rules' list of all that the Negs hold.
 use Rattle.simplify.proofs.Contradiction.{negated-any}
 use borrow.Author.Needs.{needs}
 use Rattle.simplify.proofs.beside.is_negated.Statement.{statement}

@@ -1,3 +1,4 @@
+-- To be disjoint from all members with a known constructor is to overlap none of them.
 use Rattle.simplify.proofs.Redundant.{redundant-not, redundant-neg}
 use borrow.Author.Needs.{needs}
 use Rattle.simplify.proofs.beside.is_redundant.Statement.{statement}

@@ -1,3 +1,4 @@
+-- All are of one kind exactly if none after the first is of another kind than the first.
 use Rattle.simplify.proofs.Contradiction.{same-none, same-primitive, same-others}
 use borrow.Author.Needs.{needs}
 use Rattle.simplify.proofs.intersections.all_same_non_primitive.Statement.{statement}
