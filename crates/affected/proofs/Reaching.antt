@@ -76,7 +76,7 @@ module _ (v : ℕ) where
   mem-added : (xs : List ℕ) → contains (addAll [] xs) v ≡ true → List·Memᴰ v xs
   mem-added xs h = ⊎-elim (λ (e : false ≡ true). true-false (sym e)) (λ (m : List·Memᴰ v xs). m) (mem-adds [] xs h)
 
--- what is added stands behind what there was
+-- what is added stands after what there was
 record Longer (got all : List ℕ) : Type 0 where
   more : List ℕ
   is : all ≡ got ++ more

@@ -28,7 +28,7 @@ pub record Queued (count : ℕ) (work : List ℕ) (q : ℕ) (xs : List ℕ) : Ty
   pub known : Under count xs
   pub marks : (v : ℕ) → v < count → cell work (reachedAt + v) ≡ flag (contains (addAll [] xs) v)
 
--- each of ys is marked too, and put behind the q ids of the queue if it was not; the links stay
+-- each of ys is marked too, and put after the q ids of the queue if it was not; the links stay
 pub record Marks (work : List ℕ) (q : ℕ) (ys work′ : List ℕ) (r : ℕ) : Type 0 where
   pub kept : (k : ℕ) → k < reachedAt → cell work′ k ≡ cell work k
   pub is : {count : ℕ} {xs : List ℕ} → Queued count work q xs → Under count ys → Queued count work′ r (xs ++ ys)

@@ -13,7 +13,7 @@ use storage::given::Canon;
 ghost use mathlib.Core.List.{[], _∷_};
 ghost use Rattle.affected.specs.Reaches.{Marks, MarksIf, MarksDiffering, MarksBefore, Spreads, MarksReaching, FlagsRoots, FlagsRedone};
 
-// Entry x marked, and behind the q entries of the queue, unless it was marked before; how many the queue has then.
+// Entry x marked, and put after the q entries of the queue, unless it was marked before; how many the queue has then.
 fn mark(work: &mut [u32], q: u32, x: u32) -> u32
     ensures { λ r. ⌜ Marks (now (work .entry)) q (x ∷ []) (now (work .exit)) r ⌝ }
 {

@@ -52,7 +52,7 @@ all-is listing old {T} {table = table} {g = g} u =
     sym (ap (map (rootTextOf T)) (roots-read u) ∙ map-run (rootTextOf T) _ 0 (g .roots)) in
     λ j. answersText (sym many j) ++ joined (texts j)
 
--- and behind a line of `kept` or `redone` for each root the rules' text of recheck
+-- and after a line of `kept` or `redone` for each root the rules' text of recheck
 module _ {T₁ T₂ : rules.Table} {listing old table arena work : List ℕ} {texts : List (List ℕ)} {g : Prepared}
     (u : Running T₂ g table arena work) (h : Noted T₁ T₂ listing texts old (g .roots)) where
   abbrev root : ℕ → Root

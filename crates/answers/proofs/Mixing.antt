@@ -1,4 +1,4 @@
--- The lines of the roots are written one behind the other, by what the old table's slice tells. Assumes nothing.
+-- The lines of the roots are written one after the other, by what the old table's slice tells. Assumes nothing.
 use mathlib.Core.Path.{_≡_, refl, sym, ap, ap₂, subst, _∙_}
 use mathlib.Core.Bool.{Bool, true, false, not}
 use Prim.Native.Nat.{ℕ, zero, suc, _+_, _-_, _*_, _≤_, _<_}
@@ -236,7 +236,7 @@ module _ {listing old : List ℕ} {mixed : Bool} {g : Prepared} {table₀ arena�
     work-long = ew ∙ m .work-long;
   }
 
-  -- behind the line `answers`
+  -- after the line `answers`
   pub listing-done : {out table arena work o : List ℕ} {at n p i : ℕ} → Wrote (answersText n) at out o₀ p₀ → n ≡ g .roots
       → Listing listing old mixed g table₀ arena₀ work₀ o₀ table arena work o p₀ p n i → n ≤ i → WritesRoots listing old mixed table₀ g arena₀ work₀ at out table o p
   listing-done {out} {table} {arena} {work} {o} {at} {n} {p} {i} head e m high = record {

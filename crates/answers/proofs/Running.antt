@@ -100,7 +100,7 @@ module _ {table arena work table′ arena′ work′ : List ℕ} {g : Prepared} 
     kept = table-kept l;
   }
 
--- a table that was read behind facts that were cleared, and accepted
+-- a table that was read after facts that were cleared, and accepted
 pub fresh-read : {text table table₁ table₂ arena work : List ℕ} {a : Answer} {t : Table} → Clears table 0 rowsAt table₁ → length table₁ ≡ length table
     → ReadInto text table₁ table₂ a → a ≡ Accepted t → LentTo table arena work → Fresh (rules.fromSections (tableFrom t table₂)) t table₂ arena work
 fresh-read {text} {table₂ = table₂} c l q f lent =

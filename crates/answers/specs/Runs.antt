@@ -23,7 +23,7 @@ pub record PolarityIs (sign : ℕ) (r : Polarity) : Type 0 where
   pub is : r ≡ polarityOf sign
 
 -- what a run relies on, before the first root and between two: the table of the rules as it was prepared, and slices that are long enough.
--- What a run left in the arena and the working slice matters to none behind it
+-- What a run left in the arena and the working slice matters to none after it
 pub record Running (T : rules.Table) (g : Prepared) (table arena work : List ℕ) : Type 0 where
   pub text : List ℕ
   pub counts : Table

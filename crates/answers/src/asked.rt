@@ -7,7 +7,7 @@ use outcomes::Outcome;
 use prepare::Prepared;
 ghost use Rattle.answers.specs.Asks.{WritesAsked, Delivers};
 
-// The lines of all roots behind `answers`; those of one id and sign (0 for +); or recheck's text.
+// The lines of all roots after `answers`; those of one id and sign (0 for +); or recheck's text.
 pub enum Asked {
     All,
     Root(u32, u32),

@@ -1,4 +1,4 @@
-// The lines of a table's roots, one behind the other. In the text of recheck, which mixes old lines and new ones, they stand behind a line of
+// The lines of a table's roots, one after the other. In the text of recheck, which mixes old lines and new ones, they stand after a line of
 // `kept` or `redone` for each root. What recheck knows of the old listing lies in the old table's slice: where each root's lines begin, and
 // which roots are redone.
 use crate::roots;
@@ -72,7 +72,7 @@ fn write_old(listing: &[u8], out: &mut [u8], p: u32, from: usize, to: usize) -> 
     write::word(out, p, &listing[from..to])
 }
 
-// The lines of root i, old ones or new ones. Here, behind the test of the root's flag, is the one place where recheck comes to the run.
+// The lines of root i, old ones or new ones. Here, after the test of the root's flag, is the one place where recheck comes to the run.
 fn write_root(
     listing: &[u8],
     out: &mut [u8],
@@ -99,7 +99,7 @@ fn write_root(
     roots::write_root(out, table, g, arena, work, p, id, sign)
 }
 
-// The line `answers` and the lines of every root, written from a position on; the position behind them.
+// The line `answers` and the lines of every root, written from a position on; the position after them.
 pub fn write_roots(
     listing: &[u8],
     out: &mut [u8],

@@ -16,7 +16,7 @@ fn polarity(sign: u32) -> Polarity
     }
 }
 
-// The lines of one root, written from position p on; the position behind them. This is the one place where the run is called.
+// The lines of one root, written from position p on; the position after them. This is the one place where the run is called.
 pub fn write_root(
     out: &mut [u8],
     table: &mut [u32],

@@ -72,7 +72,7 @@ module _ (text : List ℕ) (room : ℕ) (T : rules.Table) (read : tableOf text �
       record { t = rootText T id s; asks = (omega arith, refl); is = c ∙ simp (read, lt-ltb id (length (T .entries)) lt) }
   asked-some listing old g Mixed n h c = absurd c
 
--- a table that was read behind facts that were cleared, where no scratch is short
+-- a table that was read after facts that were cleared, where no scratch is short
 fresh-of : {text table arena work table₁ table₂ : List ℕ} {a : Answer} {t : Table} {d : ℕ} {b : Bool}
     → Short d (length table) (length arena) arenaLength (length work) b → b ≡ false → Clears table 0 rowsAt table₁ → length table₁ ≡ length table
     → ReadInto text table₁ table₂ a → a ≡ Accepted t → Fresh (rules.fromSections (tableFrom t table₂)) t table₂ arena work

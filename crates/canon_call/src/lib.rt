@@ -58,7 +58,7 @@ fn answer(
     }
 }
 
-// What is asked of a table text, or the refusal; the scratch is wiped behind it.
+// What is asked of a table text, or the refusal; the scratch is wiped after it.
 fn call(
     text: &[u8],
     asked: Asked,

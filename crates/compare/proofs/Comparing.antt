@@ -80,7 +80,7 @@ module _ {old table : List ℕ} {p a b e f : ℕ} {r : Bool} where
         (ap₂ {C = List ℕ} (span table) from′ (to′ ∙ ap (cell table) y));
   }
 
--- what stands in a row behind its first word; past the greatest number there is nothing
+-- what stands in a row after its first word; past the greatest number there is nothing
 behind-first : (w : List ℕ) (a c e : ℕ) → Sum a 1 c → e ≤ 4294967295 → span w c e ≡ drop 1 (span w a e)
 behind-first w a c e s le =
     ⊎-elim
@@ -91,7 +91,7 @@ behind-first w a c e s le =
     ∙ sym (drop-run (cell w) a (e - a))
 
 module _ {old table : List ℕ} {p a b c d e f : ℕ} {r : Bool} where
-  -- the same, behind the number of its kind
+  -- the same, after the number of its kind
   pub words-same : {x y : ℕ} → a ≡ cell old p → Sum a 1 c → x ≡ p + 1 → e ≡ cell old x → e ≤ 4294967295
       → b ≡ cell table p → Sum b 1 d → y ≡ p + 1 → f ≡ cell table y → f ≤ 4294967295
       → SameSpans old c e table d f r → SameWords old table p r

@@ -28,7 +28,7 @@ pub record SameSpans (s : List ℕ) (a e : ℕ) (w : List ℕ) (b f : ℕ) (r : 
 abbrev pub rowFrom : List ℕ → ℕ → List ℕ
 rowFrom w p = span w (cell w p) (cell w (p + 1))
 
--- and what stands in it behind the number of its kind
+-- and what stands in it after the number of its kind
 abbrev pub wordsFrom : List ℕ → ℕ → List ℕ
 wordsFrom w p = drop 1 (rowFrom w p)
 

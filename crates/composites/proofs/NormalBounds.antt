@@ -1,4 +1,4 @@
--- Bounds expanded, behind their visits. Assumes nothing.
+-- Bounds expanded, after their visits. Assumes nothing.
 use mathlib.Core.Path.{_≡_, refl, sym, ap, _∙_, subst}
 use mathlib.Core.Bool.{Bool, true, false}
 use Prim.Native.Nat.{ℕ}

@@ -40,7 +40,7 @@ use Rattle.composites.specs.Places.{GivenTo, Held, HeldFlow, FirstIs, Se
 use Rattle.composites.specs.Lists.{Flattens, WithoutFillers, unionMembers, TopIfEmptied, SettlesList, AsSettled, SettlesListed, FirstOrBottom, OrFirst, FirstMember, SettlesUnion}
 use Rattle.cells.specs.Placed.{Under}
 
--- two steps behind another
+-- two steps after another
 pub bind-both : {A B C : Type 0} (o : Out A) (f : A → Run B) (g : B → Run C) → bind o (λ a. f a >>= g) ≡ bind (bind o f) g
 bind-both (ok a s) f g = refl
 bind-both (no k) f g = refl

@@ -1,4 +1,4 @@
--- An intersection tried, behind its visits. Assumes nothing.
+-- An intersection tried, after its visits. Assumes nothing.
 use mathlib.Core.Path.{_≡_, refl, sym, ap, ap₂, _∙_, subst}
 use mathlib.Core.Bool.{Bool, true, false}
 use Prim.Native.Nat.{ℕ}

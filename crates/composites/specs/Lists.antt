@@ -39,7 +39,7 @@ pub record Leads (o : Out (List ℕ)) (ys : List ℕ) (y : Found) : Type 0 where
   pub below : (xs : List ℕ) (st : State) → o ≡ ok xs st → Under (length (st .nodes)) ys
   pub first : (xs : List ℕ) (st : State) → o ≡ ok xs st → FirstIs ys y
 
--- r is what the rule f gives behind l
+-- r is what the rule f gives after l
 pub record Steps (f : List ℕ → Run (List ℕ)) (w : List ℕ) (l : Listed) (w′ : List ℕ) (r : Listed) : Type 0 where
   pub is : (o : Out (List ℕ)) → Answers o w l → Answers (bind o f) w′ r
 
@@ -112,7 +112,7 @@ pub record NormalizesInter (c : Canon) (w work : List ℕ) (h : ℕ) (q : Pass) 
   pub is : (p : runs.Pass) {st : State} {xs : List ℕ} → p .functor ≡ c .functor → Sound st → Stands st w q → Taken m xs (q .nodes) → Roomy work h
       → Answers (interNormalized p pol xs st) w′ r
 
--- Ty::Inter behind its normalization; ys are all members of the first try
+-- Ty::Inter after its normalization; ys are all members of the first try
 abbrev pub interEnd : ℕ → Bool → List ℕ → List ℕ → Run ℕ
 interEnd functor cancelled ys xs = do
   simple ← simplify-union-neg-intersection functor xs

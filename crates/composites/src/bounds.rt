@@ -1,4 +1,4 @@
-// expand_bounds behind its visits.
+// expand_bounds after its visits.
 use crate::lists::Settled;
 use crate::lists::as_settled;
 use crate::lists::first_of;

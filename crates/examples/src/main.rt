@@ -16,7 +16,7 @@ fn room() -> [u8; 1048576]
     [0u8; 1048576]
 }
 
-// The part behind the head at a, a line of a word, a tab and the part's length. Where that is no number or goes too far, the part ends with
+// The part after the head at a, a line of a word, a tab and the part's length. Where that is no number or goes too far, the part ends with
 // the input.
 fn part_at(s: &[u8], a: usize) -> Part
     requires { ⌜ a ≤ length (now s) ⌝ }

@@ -99,7 +99,7 @@ answers-base {r = NodeG x q} k z =
     let g = z .is in record { is = record { after = g .after; is = g .is; stands = g .stands; keyed = g .keyed; kept = kept-both (k x (g .after) (g .is)) (g .kept) } }
 answers-base {r = Refused j} k z = record { is = z .is }
 
--- a step that stores behind others
+-- a step that stores after others
 pub answers-after : {o : Out ℕ} {n : ℕ} {w work work′ : List ℕ} {h : ℕ} {r : Given} → ((x : ℕ) (st : State) → o ≡ ok x st → Keyed n st work′ × KeptBelow h work work′) → Stores o w r
     → Answers o n w work work′ h r
 answers-after {r = NodeG x q} k z =

@@ -38,7 +38,7 @@ side-is : (i : ℕ) {first pol r : Polarity} → Side i first pol r → r ≡ si
 side-is zero a = a .first refl
 side-is (suc i) a = a .other (λ z. omega arith)
 
--- behind the first id all have the place's polarity
+-- after the first id all have the place's polarity
 pub each-visited : (v : Visit) (pol : Polarity) (bs : List ℕ) (st : State) → each (λ (d : ℕ). v d pol) bs st ≡ visited v pol pol bs st
 each-visited v pol [] st = refl
 each-visited v pol (b ∷ bs) st = refl

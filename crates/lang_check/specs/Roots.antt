@@ -1,4 +1,4 @@
--- The passes and a root's answer: what the functions behind the cycle ensure.
+-- The passes and a root's answer: what the functions after the cycle ensure.
 use mathlib.Core.Path.{_≡_}
 use mathlib.Core.Bool.{Bool, true, false, _||_}
 use Prim.Native.Nat.{ℕ, _+_, _≤_, _<_}

@@ -22,7 +22,7 @@ module _ {w : List ℕ} {a : ℕ} where
   pub fields-is : {r : ℕ} → r ≡ cell w a → Fields w a r
   fields-is e = record { is = λ {t} s. e ∙ set-count t (s .words) }
 
-  -- place i + i + 1 or i + i + 2 behind a
+  -- place i + i + 1 or i + i + 2 after a
   twice : {t : Attr} {i j m p : ℕ} (d : ℕ) → SetAt w a t → d ≤ 2 → i < length (t .fields) → Sum i i j → Sum j d m → p ≡ a + m → p ≡ a + (i + i) + d
   twice {t} d s le lt two one e =
       let l = attr-words-length t in

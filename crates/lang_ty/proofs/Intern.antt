@@ -1,4 +1,4 @@
--- A row behind the others found, refused, or kept as the next node. Assumes nothing.
+-- A row after the others found, refused, or kept as the next node. Assumes nothing.
 use mathlib.Core.Path.{_≡_, sym, ap, _∙_, subst}
 use Prim.Native.Nat.{ℕ, suc, _+_, _≤_, _<_}
 use native.Mathlib.Omega.{arith}
@@ -42,7 +42,7 @@ module _ {w : List ℕ} {q : Pass} {ns : List Node} {n : Node} {k end count : �
   last : k < length w → cell ended k ≡ end
   last lt = getD-set-same w k end 0 lt
 
-  -- a row stands where it stood: rows lie behind the places of their beginnings
+  -- a row stands where it stood: rows lie after the places of their beginnings
   stays : {a : ℕ} (m : Node) → q .nodes < mostNodes → arenaWords ≤ a → Holds w a (encode m) → Holds ended a (encode m)
   stays {a} m room behind r =
       record { is = run-ext (cell ended) (cell w) a (length (encode m)) (λ j le lt. getD-set-other w k j end 0 (omega arith)) ∙ r .is }

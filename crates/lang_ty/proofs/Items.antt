@@ -46,7 +46,7 @@ module _ {a b : ℕ} where
 in-fields : (t : Attr) (i : ℕ) → getD (attrItems t) i end ≡ getD (fieldItems (t .fields) ++ restItems t) i end
 in-fields t i = ap (λ (l : List rules-order.Item). getD l i end) (set-items t)
 
--- behind the fields and their end
+-- after the fields and their end
 behind : (t : Attr) (i : ℕ) → getD (attrItems t) (suc (2 * length (t .fields)) + i) end ≡ getD (restItems t) i end
 behind t i =
     in-fields t (suc (2 * length (t .fields)) + i) ∙ field-rest (t .fields) (restItems t) (suc (2 * length (t .fields)) + i) i refl

@@ -1,4 +1,4 @@
--- Rows written behind the others, and kept. Assumes nothing.
+-- Rows written after the others, and kept. Assumes nothing.
 use mathlib.Core.Path.{_≡_, refl, sym, ap, ap₂, _∙_, subst}
 use Prim.Native.Nat.{ℕ, suc, _+_, _≤_, _<_}
 use native.Mathlib.Omega.{arith}
@@ -39,7 +39,7 @@ written-more {t} {w} {w′} {w″} {xs} {p} v h place e =
 pub written-list : {t : ℕ} {w w′ xs ys : List ℕ} → xs ≡ ys → Written t w w′ xs → Written t w w′ ys
 written-list {t} {w} {w′} e h = subst (λ (l : List ℕ). Written t w w′ l) e h
 
--- behind what was written
+-- after what was written
 pub written-both : {t m : ℕ} {w w′ w″ xs ys : List ℕ} → Written t w w′ xs → m ≡ t + length xs → Written m w′ w″ ys → Written t w w″ (xs ++ ys)
 written-both {t} {m} {w} {w′} {w″} {xs} {ys} h place k =
     record {
@@ -113,7 +113,7 @@ stored-row {w} {w′} {w″} {xs} {q} {t} {len} top h size g =
           (omega arith);
     }
 
--- two numbers, and more behind them
+-- two numbers, and more after them
 pub written-two : {t p a b : ℕ} {w w1 w2 : List ℕ} → w1 ≡ set w t a → p ≡ t + 1 → w2 ≡ set w1 p b → Written t w w2 (a ∷ b ∷ [])
 written-two {t} {p} {a} {b} {w} first place second = written-more b (written-more a (written-none t w) (omega arith) first) place second
 
@@ -130,7 +130,7 @@ module _ {w w1 : List ℕ} {q : Pass} {t k : ℕ} (top : Top w q t) where
         → Stored (k ∷ a ∷ b ∷ []) count w q w″ r
     stored-three {b = b} place third g = stored-row top (written-more b head place third) refl g
 
-    -- a row of two words and what was written behind them
+    -- a row of two words and what was written after them
     stored-behind : {w2 w″ xs : List ℕ} {m len count : ℕ} {r : Given} → Sum t 2 m → Written m w1 w2 xs → len ≡ 2 + length xs → Interned w2 q len count w″ r
         → Stored (k ∷ a ∷ xs) count w q w″ r
     stored-behind {m = m} sum rest size g =
@@ -145,7 +145,7 @@ module _ {w w1 : List ℕ} {q : Pass} {t k : ℕ} (top : Top w q t) where
         → Stored (k ∷ a ∷ b ∷ c ∷ []) count w q w″ r
     stored-four sum rest g = stored-behind sum rest refl g
 
-    -- a list of members behind its kind and their number
+    -- a list of members after its kind and their number
     pub listed-few : {m o len : ℕ} {from w2 w″ : List ℕ} {r : Given} → a ≤ mostMembers → Sum t 2 m → Written m w1 w2 (part from o a) → len ≡ a + 2 → Interned w2 q len a w″ r
         → Listed k from o a w q w″ r
     listed-few {o = o} {from = from} few sum rest size g =

@@ -33,7 +33,7 @@ pub subtype-yes : {a b : ℕ} {r : Bool} → b ≡ 2 → r ≡ ltb a 2 → Subty
 unfolding is-subtype-of
 subtype-yes {a} {b} h e = record { is = e ∙ sym (ap (λ (t : Bool). both t (λ _. ltb a 2)) (eq-eqb b 2 h)) }
 
--- a set's place is behind its node's kind
+-- a set's place is after its node's kind
 pub set-place-is : {w : List ℕ} {x a r : ℕ} → a ≡ cell w x → Sum a 1 r → SetPlace w x r
 set-place-is {w} {x} {a} {r} e sum =
     record {

@@ -58,7 +58,7 @@ module _ {st : State} {w w′ : List ℕ} {q : Pass} {r : Given} (on : Stands st
       stored-intersection h lt lt′ =
           h .is {n = Intersection (a ∷ b ∷ [])} on (record { cells = refl; few = omega arith; below = (lt, (lt′, tt)); short = omega arith }) refl
 
--- a set whose row stands behind the others
+-- a set whose row stands after the others
 pub interned-set : {st : State} {w w′ : List ℕ} {q : Pass} {len cells : ℕ} {r : Given} (t : Attr) → Stands st w q → Interned w q len cells w′ r
     → Holds w (cell w (q .nodes)) (encode (AttrSet t)) → len ≡ length (encode (AttrSet t)) → len ≤ 8192 → cells ≡ 2 * length (t .fields) + length (t .optional)
     → Under (q .nodes) (attrKids t) → Answers (store (AttrSet t) st) w′ r

@@ -24,7 +24,7 @@ module _ {w : List ℕ} {q : Pass} {ns : List Node} (h : Arena w q ns) where
   up zero i e = let f : i ≡ length ns = omega arith in let g = ap (cell w) f in omega arith
   up (suc d) i e = omega (arith, h .ends i (omega arith), up d (suc i) (omega arith))
 
-  -- and lie behind them all
+  -- and lie after them all
   pub low : (i : ℕ) → i ≤ length ns → arenaWords ≤ cell w i
   low zero le = h .first
   low (suc i) le = omega (arith, h .ends i (omega arith), low i (omega arith))

@@ -26,7 +26,7 @@ abbrev pub highest : ℕ
 highest = arenaWords + 6 * mostNodes + mostCells
 
 -- the slice holds these nodes, "children first", none with more members than may be. A row has at most 6 words besides its cells, so that
--- there is room for one of 8,192 words behind the last
+-- there is room for one of 8,192 words after the last
 pub record Arena (w : List ℕ) (q : Pass) (ns : List rules.Node) : Type 0 where
   pub count : length ns ≡ q .nodes
   pub few : q .nodes ≤ mostNodes
@@ -86,7 +86,7 @@ pub record Member (w : List ℕ) (x i r : ℕ) : Type 0 where
 pub record Same (w : List ℕ) (a b n : ℕ) (r : Bool) : Type 0 where
   pub is : r ≡ eqList (part w a n) (part w b n)
 
--- the row of n is the len words from top on, behind the rows of ns
+-- the row of n is the len words from top on, after the rows of ns
 pub record Offered (w : List ℕ) (q : Pass) (top len : ℕ) (ns : List rules.Node) (n : rules.Node) : Type 0 where
   pub arena : Arena w q ns
   pub row : Holds w top (encode n)
@@ -105,7 +105,7 @@ pub record Sought (w : List ℕ) (nodes top len : ℕ) (r : Found) : Type 0 wher
   pub is : {q : Pass} {ns : List rules.Node} {n : rules.Node} → Offered w q top len ns n → nodes ≡ length ns
       → foundOf r ≡ find (eqList (encode n)) 0 (map encode ns)
 
--- what is asked of a node that is to be stored behind k others: its cells, members no more than may be, its children among those, and a
+-- what is asked of a node that is to be stored after k others: its cells, members no more than may be, its children among those, and a
 -- row that has room
 pub record Fits (n : rules.Node) (k count : ℕ) : Type 0 where
   pub cells : cellsOf n ≡ count
@@ -118,7 +118,7 @@ pub record Kept (w : List ℕ) (q : Pass) (end cells : ℕ) (w′ : List ℕ) (r
   pub is : {st : State} {n : rules.Node} → Stands st w q → Fits n (q .nodes) cells → Holds w (cell w (q .nodes)) (encode n)
       → end ≡ cell w (q .nodes) + length (encode n) → Answers (rules.keep n st none) w′ r
 
--- the len words behind the last row, as a node: "Storing an equal node again takes nothing"
+-- the len words after the last row, as a node: "Storing an equal node again takes nothing"
 pub record Interned (w : List ℕ) (q : Pass) (len cells : ℕ) (w′ : List ℕ) (r : Given) : Type 0 where
   pub is : {st : State} {n : rules.Node} → Stands st w q → Fits n (q .nodes) cells → Holds w (cell w (q .nodes)) (encode n)
       → len ≡ length (encode n) → Answers (store n st) w′ r

@@ -47,7 +47,7 @@ pub record Least (a b r : ℕ) : Type 0 where
   pub second : r ≤ b
   pub one : (r ≡ a) ⊎ (r ≡ b)
 
--- how many items the set at a has, and item i of them, of all and of those behind its fields
+-- how many items the set at a has, and item i of them, of all and of those after its fields
 pub record SetItems (w : List ℕ) (a r : ℕ) : Type 0 where
   pub is : {t : Attr} → SetAt w a t → r ≡ length (attrItems t)
 

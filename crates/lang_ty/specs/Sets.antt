@@ -50,7 +50,7 @@ pub record Open (w : List ℕ) (a r : ℕ) : Type 0 where
 pub record Optionals (w : List ℕ) (a r : ℕ) : Type 0 where
   pub is : {t : Attr} → SetAt w a t → r ≡ length (t .optional)
 
--- n cells from a on, step apart, and the place behind them
+-- n cells from a on, step apart, and the place after them
 abbrev pub apart : List ℕ → ℕ → ℕ → ℕ → List ℕ
 apart w step a zero = []
 apart w step a (suc n) = cell w a ∷ apart w step (a + step) n

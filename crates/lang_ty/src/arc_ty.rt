@@ -106,7 +106,7 @@ fn set_items(words: &[u32], a: u32) -> u32
     add(add(add(n, n), 4), attrset::optionals(words, a))
 }
 
-// Item i of the set at a, behind its fields and their end.
+// Item i of the set at a, after its fields and their end.
 fn set_rest(words: &[u32], a: u32, i: u32) -> Item
     ensures { λ r. ⌜ SetRest (now (words .entry)) a i r ⌝ }
 {

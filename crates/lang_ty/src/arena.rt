@@ -1,4 +1,4 @@
-// TypeArena: node i is arena[arena[i]..arena[i + 1]], the number of its kind and then its contents. A new node's row is written behind
+// TypeArena: node i is arena[arena[i]..arena[i + 1]], the number of its kind and then its contents. A new node's row is written after
 // the last one, compared with each row, and kept by a greater count or dropped by none.
 use cells::add;
 use cells::at;
@@ -177,7 +177,7 @@ fn keep(arena: &mut [u32], q: Pass, end: u32, cells: u32) -> Given
     Given::Node(n, r)
 }
 
-// TypeArena::intern: the node whose row is the len words behind the last row: the number of the one that is there, or the next.
+// TypeArena::intern: the node whose row is the len words after the last row: the number of the one that is there, or the next.
 pub fn intern(arena: &mut [u32], q: Pass, len: u32, cells: u32) -> Given
     ensures { λ r. ⌜ Interned (now (arena .entry)) q len cells (now (arena .exit)) r ⌝ }
 {

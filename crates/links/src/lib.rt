@@ -39,7 +39,7 @@ fn link_each(table: &[u32], work: &mut [u32], n: u32, x: u32, a: u32, step: u32,
     e
 }
 
-// Links from x to the ids of the list at a: their number stands there, and they behind it.
+// Links from x to the ids of the list at a: their number stands there, and they after it.
 fn link_list(table: &[u32], work: &mut [u32], n: u32, x: u32, a: u32) -> u32
     ensures { λ r. ⌜ LinksList (now (table .entry)) (now (work .entry)) n x a (now (work .exit)) r ⌝ }
 {

@@ -1,4 +1,4 @@
--- What stands behind a node's keyword. Assumes nothing.
+-- What stands after a node's keyword. Assumes nothing.
 use mathlib.Core.Path.{_≡_, refl, sym, ap, ap₂, _∙_}
 use Prim.Native.Nat.{ℕ, suc, _+_, _*_, _<_}
 use native.Mathlib.Omega.{arith}
@@ -151,7 +151,7 @@ module _ {w : List ℕ} {q : Pass} {ns : List Node} {x : ℕ} (h : Arena w q ns)
   named-at : {a b : ℕ} → kindOf (nodeAt ns x) ≡ 7 → Word w x 1 a → Word w x 2 b → Named a b ≡ nodeAt ns x
   named-at e a b = ap₂ {C = Node} Named (word-at 7 1 (λ row. omega arith) e a) (word-at 7 2 (λ row. omega arith) e b) ∙ node-of (nodeAt ns x) 7 e
 
-  -- the members, behind a row's first two words
+  -- the members, after a row's first two words
   members-at : {v p n : ℕ} (k : ℕ) → encode (nodeAt ns x) ≡ k ∷ length (members (nodeAt ns x)) ∷ members (nodeAt ns x) → v ≡ cell w x → Sum v 2 p
       → n ≡ length (members (nodeAt ns x)) → part w p n ≡ members (nodeAt ns x)
   members-at {v} {p} {n} k row e s c =

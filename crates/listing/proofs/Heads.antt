@@ -1,4 +1,4 @@
--- Lines that are no nodes: fields behind a keyword, each behind a tab. Assumes nothing.
+-- Lines that are no nodes: fields after a keyword, each after a tab. Assumes nothing.
 use mathlib.Core.Path.{_≡_, ap, ap₂, _∙_}
 use Prim.Native.Nat.{ℕ}
 use mathlib.Core.List.{List, [], _∷_, _++_, append-nil, append-assoc}

@@ -187,7 +187,7 @@ module _ {arena work₀ work : List ℕ} {x k n next i c : ℕ} (v : Visiting ar
     is = λ xs ar room le u below a. absurd (let h = kid-below ar le below in omega arith);
   }
 
-  -- the slice and the count as they are behind the test
+  -- the slice and the count as they are after the test
   module _ {work₁ : List ℕ} {next₁ : ℕ} where
     pub visiting-more : {work′ : List ℕ} {next′ : ℕ} → c < x → length work′ ≡ length work → Visits arena work c next work′ next′ → work₁ ≡ work′ → next₁ ≡ next′
         → Visiting arena work₀ x k n work₁ next₁ (i + 1)

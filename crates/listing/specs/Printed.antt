@@ -23,7 +23,7 @@ abbrev pub tabbed : List (List ℕ) → List ℕ
 tabbed [] = []
 tabbed (f ∷ fs) = tab ∷ (f ++ tabbed fs)
 
--- the fields of a root's line behind its sign
+-- the fields of a root's line after its sign
 abbrev pub countTexts : Shown → ℕ → List (List ℕ)
 countTexts s n = decimal (s .passes) ∷ decimal (s .ops) ∷ decimal (flag (s .sorted)) ∷ decimal (flag (s .bailed)) ∷ decimal n ∷ []
 
@@ -35,7 +35,7 @@ headLine id sign s n = headText (1 ∷ id ∷ sign ∷ s .passes ∷ s .ops ∷ 
 abbrev pub partedBy : ℕ → ℕ
 partedBy i = if (eqb i 0) (λ _. tab) (λ _. comma)
 
--- what stands behind the keyword of a node
+-- what stands after the keyword of a node
 abbrev pub contentsText : Node → List ℕ
 contentsText n = tabbed (shapeTexts (getD nodeKinds (kindOf n) noKind .shape) (drop 1 (encode n)))
 

@@ -174,7 +174,7 @@ fn node_field(out: &mut [u8], work: &[u32], at: u32, y: u32) -> u32
     number_field(out, at, walk::number(work, y))
 }
 
-// What stands behind the keyword of node x.
+// What stands after the keyword of node x.
 fn contents(out: &mut [u8], arena: &[u32], work: &[u32], at: u32, x: u32) -> u32
     ensures { λ r. ⌜ WroteContents (now (arena .entry)) (now (work .entry)) x at (now (out .entry)) (now (out .exit)) r ⌝ }
 {

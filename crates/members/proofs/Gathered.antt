@@ -240,7 +240,7 @@ module _ {s : List ℕ} {n x : ℕ} where
   pub containing-done : {i : ℕ} → Containing s n x i → n ≤ i → Contains s n x false
   containing-done {i} c le = record { is = any-done (eqb x) (part s 0 n) i (c .is) (omega (arith, run-length (cell s) 0 n)) }
 
--- `held` and `copy_into` at number i: as many as fit stand behind the first k
+-- `held` and `copy_into` at number i: as many as fit stand after the first k
 pub record Filling (k : ℕ) (from : List ℕ) (a n : ℕ) (out₀ out : List ℕ) (i : ℕ) : Type 0 where
   pub few : i ≤ n
   pub same : length out ≡ length out₀

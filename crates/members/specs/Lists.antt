@@ -110,7 +110,7 @@ abbrev pub only : Bool → ℕ → List ℕ
 only true x = x ∷ []
 only false x = []
 
--- what was gathered, and x behind it where it is to be kept
+-- what was gathered, and x after it where it is to be kept
 pub record KeepsIf (out : List ℕ) (k x : ℕ) (b : Bool) (out′ : List ℕ) (r : ℕ) : Type 0 where
   pub is : {xs : List ℕ} → Gathered out k xs → length xs < mostMembers → Gathered out′ r (xs ++ only b x)
 
@@ -167,7 +167,7 @@ AnswersGrown o w xs out (RefusedG k) = o ≡ no k
 pub record Grows (out : List ℕ) (k : ℕ) (p : AtMostOne) (out′ : List ℕ) (r : Grown) : Type 0 where
   pub is : (o : Out (List ℕ)) (w : List ℕ) {xs : List ℕ} → AnswersPart o w p → Gathered out k xs → length xs < mostMembers → AnswersGrown o w xs out′ r
 
--- the members behind what was gathered
+-- the members after what was gathered
 pub record CopiedInto (out : List ℕ) (k : ℕ) (m : Members) (out′ : List ℕ) (r : ℕ) : Type 0 where
   pub sum : Sum k (m .count) r
   pub is : {xs ys : List ℕ} → Gathered out k xs → Few m ys → length xs + length ys ≤ mostMembers → Gathered out′ r (xs ++ ys)
@@ -178,7 +178,7 @@ pub record Joined (a b r : Members) : Type 0 where
 pub record AsListed (p : AtMostOne) (r : Listed) : Type 0 where
   pub is : (o : Out (List ℕ)) (w : List ℕ) → AnswersPart o w p → Answers o w r
 
--- the members and a node behind them, where it fits
+-- the members and a node after them, where it fits
 pub record WithLast (m : Members) (g : Given) (r : Listed) : Type 0 where
   pub is : (o : Out ℕ) (w : List ℕ) {xs : List ℕ} → Stores o w g → Few m xs → length xs < mostMembers
       → ((x : ℕ) (st : State) → o ≡ ok x st → Under (length (st .nodes)) xs) → Answers (bind o (λ x. give (xs ++ (x ∷ [])))) w r

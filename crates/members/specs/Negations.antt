@@ -54,7 +54,7 @@ abbrev pub membersUpTo : List rules.Node → ℕ → ℕ
 membersUpTo ns zero = 0
 membersUpTo ns (suc k) = membersUpTo ns k + length (members (nodeAt ns k))
 
--- node x is stored, and from h on, behind the counters, there is room for the members of x and of all nodes below it
+-- node x is stored, and from h on, after the counters, there is room for the members of x and of all nodes below it
 pub record Negatable (st : State) (w : List ℕ) (q : Pass) (held : List ℕ) (h x : ℕ) : Type 0 where
   pub stands : Stands st w q
   pub known : x < length (st .nodes)

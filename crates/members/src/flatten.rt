@@ -9,7 +9,7 @@ use lang_ty::arena::Pass;
 ghost use Rattle.rules.specs.Members.{flatten-composite};
 ghost use Rattle.members.specs.Flattens.{AddsNew, AddsMembers, FlattensOne, Spreads, flattenAll};
 
-// x put behind the first k cells of out, unless it is among them; how many there are then. Past 128 nothing is added.
+// x put after the first k cells of out, unless it is among them; how many there are then. Past 128 nothing is added.
 fn add_new(out: &mut [u32], k: u32, x: u32) -> u32
     ensures { λ r. ⌜ AddsNew (now (out .entry)) k x (now (out .exit)) r ⌝ }
 {

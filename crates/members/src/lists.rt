@@ -85,7 +85,7 @@ pub fn contains(s: &[u32], n: u32, x: u32) -> bool
     false
 }
 
-// x put behind the first k cells of out, if it is to be kept; how many there are then.
+// x put after the first k cells of out, if it is to be kept; how many there are then.
 pub fn keep_if(out: &mut [u32], k: u32, x: u32, kept: bool) -> u32
     ensures { λ r. ⌜ KeepsIf (now (out .entry)) k x kept (now (out .exit)) r ⌝ }
 {
@@ -172,7 +172,7 @@ pub enum Grown {
     Refused(u32),
 }
 
-// What is left of a member put behind the first k cells of out.
+// What is left of a member put after the first k cells of out.
 pub fn grow(out: &mut [u32], k: u32, p: AtMostOne) -> Grown
     ensures { λ r. ⌜ Grows (now (out .entry)) k p (now (out .exit)) r ⌝ }
 {
@@ -186,7 +186,7 @@ pub fn grow(out: &mut [u32], k: u32, p: AtMostOne) -> Grown
     }
 }
 
-// The members put behind the first k cells of out; how many there are then.
+// The members put after the first k cells of out; how many there are then.
 fn copy_into(out: &mut [u32], k: u32, m: Members) -> u32
     ensures { λ r. ⌜ CopiedInto (now (out .entry)) k m (now (out .exit)) r ⌝ }
 {
@@ -268,7 +268,7 @@ pub fn of_kind(arena: &[u32], m: Members, kind: u32, wanted: bool) -> Members
     Members { count: k, at: out }
 }
 
-// The members and a node behind them.
+// The members and a node after them.
 pub fn with_last(m: Members, g: Given) -> Listed
     ensures { λ r. ⌜ WithLast m g r ⌝ }
 {

@@ -92,11 +92,11 @@ outcome-one (Written m) (Refused k l) e = absurd (let z : _≡_ {A = ℕ} 0 1 = 
 outcome-one (Refused k l) (Written n) e = absurd (let z : _≡_ {A = ℕ} 0 1 = cc in omega arith)
 outcome-one (Refused k l) (Refused m n) e = cc
 
--- a scratch wiped behind what kept its length
+-- a scratch wiped after what kept its length
 pub zeroed : {s u v : List ℕ} → length u ≡ length s → Zero u v → Zero s v
 zeroed l z = record { is = z .is ∙ ap (λ (n : ℕ). replicate n 0) l }
 
--- a call that says what the rules say, and wipes the scratch behind it
+-- a call that says what the rules say, and wipes the scratch after it
 pub called : {l : Left} {draft table arena work draft₁ table₁ arena₁ work₁ out′ draft′ table′ arena′ work′ : List ℕ} {r : Outcome} → Says l out′ r
     → length draft₁ ≡ length draft → length table₁ ≡ length table → length arena₁ ≡ length arena → length work₁ ≡ length work
     → Wiped draft₁ table₁ arena₁ work₁ draft′ table′ arena′ work′ → Called l draft table arena work out′ draft′ table′ arena′ work′ r
@@ -114,7 +114,7 @@ called s d t a w z = record {
 abbrev pub Same : List ℕ → List ℕ → List ℕ → List ℕ → List ℕ → Outcome → List ℕ → List ℕ → List ℕ → List ℕ → List ℕ → Outcome → Type 0
 Same o d t a w r o′ d′ t′ a′ w′ r′ = (r ≡ r′) × (o ≡ o′) × (d ≡ d′) × (t ≡ t′) × (a ≡ a′) × (w ≡ w′)
 
--- a call that keeps this promise has one outcome, one output and one scratch behind it
+-- a call that keeps this promise has one outcome, one output and one scratch after it
 pub called-unique : {draft table arena work o d t a w o′ d′ t′ a′ w′ : List ℕ} {r r′ : Outcome} {l : Left}
     → Called l draft table arena work o d t a w r → Called l draft table arena work o′ d′ t′ a′ w′ r′ → Same o d t a w r o′ d′ t′ a′ w′ r′
 called-unique {r = r} {r′ = r′} x y =

@@ -28,7 +28,7 @@ pub record Fits (out draft : List ℕ) (n : ℕ) : Type 0 where
   pub room : n ≤ length out
   pub long : n ≤ length draft
 
--- the first n bytes of the draft, and behind them what stood there
+-- the first n bytes of the draft, and after them what stood there
 pub record Copies (out draft : List ℕ) (n : ℕ) (out′ : List ℕ) : Type 0 where
   pub is : out′ ≡ take n draft ++ drop n out
 

@@ -150,7 +150,7 @@ module _ {table₀ : List ℕ} {first entries n : ℕ} where
         ∙ (λ j. markAll (b j) table₀ (marksIn table₀ (a j) (d j)));
   }
 
--- the words of a row behind the first
+-- the words of a row after the first
 pub drop-run : {A : Type 0} (f : ℕ → A) (a n : ℕ) → drop 1 (run f a n) ≡ run f (a + 1) (n - 1)
 drop-run f a zero = refl
 drop-run f a (suc n) = run-at f (suc a) (a + 1) n (suc n - 1) (sym (add-one a)) (omega arith)
@@ -350,7 +350,7 @@ rep-turn true table n id e = run-getD (cell table) 0 n id id (ltb-true id n e) �
 rep-turn false table n id e =
     List·getD-eq-default (part table 0 n) id (let l = run-length (cell table) 0 n in let f = ltb-false id n e in omega arith)
 
--- the pairs, the marks and the roots of a table that was read, as the code reads them, and that pairs and marks lie behind the facts
+-- the pairs, the marks and the roots of a table that was read, as the code reads them, and that pairs and marks lie after the facts
 module _ (text table : List ℕ) (t : Table) (T : rules.Table) (rd : Read text table (Accepted t)) (e : tableOf text ≡ accepted T) where
   table-is : T ≡ fromSections (tableFrom t table)
   table-is = same-table text table t T rd e

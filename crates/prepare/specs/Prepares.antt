@@ -53,7 +53,7 @@ marksIn table first n = run (λ (i : ℕ). cell table (cell table i + 1)) first 
 pub record SetsMark (table : List ℕ) (entries id : ℕ) (table′ : List ℕ) : Type 0 where
   pub is : table′ ≡ mark entries table id
 
--- the rows of marks lie behind the cells that are set
+-- the rows of marks lie after the cells that are set
 pub record SetsMarks (table : List ℕ) (t : Table) (table′ : List ℕ) : Type 0 where
   pub is : Few t → Behind table rowsAt (rowsAt + 1 + t .names + t .entries + t .pairs) (t .marks)
       → table′ ≡ markAll (t .entries) table (marksIn table (rowsAt + 1 + t .names + t .entries + t .pairs) (t .marks))

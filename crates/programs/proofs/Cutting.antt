@@ -71,7 +71,7 @@ no-line (suc n) (a ∷ l) (c ∷ w) f =
 next-free : Free lineFeed (ascii "next")
 next-free = ((λ e. omega arith), ((λ e. omega arith), ((λ e. omega arith), ((λ e. omega arith), tt))))
 
--- a line with another behind it
+-- a line with another after it
 cut-more : (got l g rest : List ℕ)
     → cutNext got (l ∷ cut lineFeed g rest)
     ≡ if (eqList l (ascii "next")) (λ _. record { front = got; back = parted lineFeed (cut lineFeed g rest) })
@@ -214,7 +214,7 @@ module _ {s other : List ℕ} {n : ℕ} where
   pub begins-short : length s < n → Begins s n other false
   begins-short h = record { is = sym (rw (lt-leb n (length s) h)) }
 
--- each way out of `is_next`; the code has what is behind a place as a part up to the end
+-- each way out of `is_next`; the code has what is after a place as a part up to the end
 next-here : (s : List ℕ) (i : ℕ) {b : Bool} → Begins (take (length s - i) (drop i s)) 5 nextLine b → b ≡ eqList (take 5 (drop i s)) nextLine
 next-here s i {b} g =
     subst (λ (l : List ℕ). Begins l 5 nextLine b) (rest-whole s i) g .is

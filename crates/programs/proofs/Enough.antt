@@ -46,7 +46,7 @@ canon-enough input =
     ap (λ (r : Result Table). printed (then r (λ (t : Table). fits lent (listingText t))))
     (by-length tableOf (refused 2 0) long-table 65537 (omega arith) input)
 
--- a text cut, and its first bytes cut: nothing is missing, what is behind the cut is cut short, or both have a front that is as long as all that was kept
+-- a text cut, and its first bytes cut: nothing is missing, what is after the cut is cut short, or both have a front that is as long as all that was kept
 data Alike (most : ℕ) (x y : Split) : Type 0 where
   whole : y ≡ x → Alike most x y
   kept : (k : ℕ) → y .front ≡ x .front → y .back ≡ take k (x .back) → length (x .front) + 5 + k ≡ most → Alike most x y
@@ -93,7 +93,7 @@ then-same : {A B : Type 0} (r : Result A) (f g : A → Result B) → ((a : A) �
 then-same (accepted a) f g h = h a
 then-same (refused k l) f g h = refl
 
--- recheck, where a part is too long, whatever is behind it
+-- recheck, where a part is too long, whatever is after it
 long-old : (old new listing : List ℕ) (room : ℕ) → mostText < length old → recheck old new listing room ≡ refused 2 0
 unfolding recheck
 long-old old new listing room h = rw (long-table old h)
@@ -111,7 +111,7 @@ listing-enough old new listing room k h =
     (λ _. then r (λ (texts : List (List ℕ)). fits room (recheckText t u texts))))
     (by-length (oldListing (length (u .names)) (u .roots)) (refused 11 0) (long-listing (length (u .names)) (u .roots)) k h listing)))
 
--- what stands behind the old table, as recheck is given it
+-- what stands after the old table, as recheck is given it
 abbrev behindOld : List ℕ → Split → Result (List ℕ)
 behindOld old s = recheck old (s .front) (s .back) lent
 

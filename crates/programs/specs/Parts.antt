@@ -27,7 +27,7 @@ lineAt s from i = if (leb i from) (λ _. true) (λ _. eqb (cell s (i - 1)) lineF
 pub record IsNext (s : List ℕ) (from i : ℕ) (r : Bool) : Type 0 where
   pub is : r ≡ both (lineAt s from i) (λ _. eqList (take 5 (drop i s)) nextLine)
 
--- where what is behind a part begins: after its line `next`, or at the end of n bytes
+-- where what comes after a part begins: after its line `next`, or at the end of n bytes
 abbrev pub behindOf : ℕ → ℕ → ℕ
 behindOf n to = if (ltb (n - to) 5) (λ _. n) (λ _. to + 5)
 

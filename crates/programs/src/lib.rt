@@ -125,7 +125,7 @@ fn until_next(s: &[u8], from: usize) -> Part
     Part { from, to: n }
 }
 
-// Where the part behind one that ends there begins: after its line `next`, or at the end of the input.
+// Where the part after one that ends there begins: after its line `next`, or at the end of the input.
 fn behind(s: &[u8], to: usize) -> usize
     requires { ⌜ to ≤ length (now s) ⌝ }
     ensures { λ r. ⌜ Behind (length (now (s .entry))) to r ⌝ }

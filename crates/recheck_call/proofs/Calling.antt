@@ -210,7 +210,7 @@ pub record ReadsNew (newText listing out old : List ℕ) (u : Table) (table aren
   pub is : {T₁ : rules.Table} → Before T₁ u old → LentTo table arena work → lineLength ≤ length arena
       → Says (leaves out (then (tableOf newText) (λ (T₂ : rules.Table). recheckOf T₁ T₂ listing (length out)))) out′ r
 
--- what was read of it behind facts that were cleared
+-- what was read of it after facts that were cleared
 module _ {newText listing out old table arena work table₁ table₂ : List ℕ} {u : Table} {a : Answer} (q : ReadInto newText table₁ table₂ a) where
   pub refused-new : {k l : ℕ} → a ≡ TableRefused k l → ReadsNew newText listing out old u table arena work out (Refused k l)
   refused-new {k} {l} e = record {

@@ -115,7 +115,7 @@ fn answer(
     }
 }
 
-// The listing of the new table behind a line of `kept` or `redone` for each root, or the refusal; the scratch is wiped behind it.
+// The listing of the new table after a line of `kept` or `redone` for each root, or the refusal; the scratch is wiped after it.
 pub fn recheck(
     old_text: &[u8],
     new_text: &[u8],

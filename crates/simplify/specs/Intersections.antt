@@ -16,7 +16,7 @@ pub record Simplifies (w : List ℕ) (q : Pass) (ms : List ℕ) (n x : ℕ) (w�
   pub is : {st : State} {xs : List ℕ} → Stands st w q → Taken (firstOf n ms) xs (length (st .nodes)) → x < length (st .nodes)
       → AnswersPart (simplifyOne (negatedInners (st .nodes) xs) x st) w′ r
 
--- what simplifying makes of member i, behind what was gathered
+-- what simplifying makes of member i, after what was gathered
 pub record SimplifiesInto (w : List ℕ) (q : Pass) (ms : List ℕ) (n i : ℕ) (out : List ℕ) (k : ℕ) (w′ out′ : List ℕ) (r : Grown) : Type 0 where
   pub is : {st : State} {xs got : List ℕ} → Stands st w q → Taken (firstOf n ms) xs (length (st .nodes)) → i < n → Gathered out k got → length got < mostMembers
       → AnswersGrown (simplifyOne (negatedInners (st .nodes) xs) (getD xs i 0) st) w′ got out′ r

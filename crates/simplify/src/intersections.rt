@@ -90,7 +90,7 @@ fn simplified(arena: &mut [u32], q: Pass, s: &[u32], n: u32, x: u32) -> AtMostOn
     sole(arena, q, OutputTy::UNION, m)
 }
 
-// What simplifying makes of member i, put behind the first k cells of out.
+// What simplifying makes of member i, put after the first k cells of out.
 fn simplify_one(
     arena: &mut [u32],
     q: Pass,

@@ -1,4 +1,4 @@
--- The first i members stand behind the first k cells, which are as they were, as long as they fit.
+-- The first i members stand after the first k cells, which are as they were, as long as they fit.
 use native.Mathlib.Omega.{arith}
 use Rattle.members.proofs.Gathered.{Filling, filling-start, filling-more, copied-is}
 use borrow.Author.Needs.{needs}
