@@ -1,12 +1,11 @@
 -- What a text that was read says of its table, and a text brought to the output. Assumes nothing.
 use mathlib.Core.Path.{_≡_, refl, sym, ap, ap₂, subst, _∙_}
 use mathlib.Core.Bool.{Bool}
-use Prim.Native.Nat.{ℕ, suc, _≤_, _<_}
-use mathlib.Core.List.{List, [], _∷_, _++_, append-nil}
-use lib.ListN.{length, take, drop, length-append}
-use lib.Seq.{set-append-seam, append-snoc, take-append-seam}
+use Prim.Native.Nat.{ℕ, _≤_, _<_}
+use mathlib.Core.List.{List, _++_}
+use lib.ListN.{length, take, drop}
+use lib.Seq.{take-append-seam}
 use native.Mathlib.Omega.{arith}
-use native.Mathlib.Nat.{not-suc-le-zero}
 use borrow.Author.Tests.{lt-ltb, le-ltb}
 use Rattle.cells.specs.Part.{if}
 use Rattle.rules.specs.Table.{Sections, Result, accepted, refused, then, sectionsOf, fromSections, tableOf}
@@ -15,7 +14,7 @@ use Rattle.table.specs.Rows.{tableFrom, outcome, ReadInto}
 use Rattle.table.specs.declared.Table.{Table}
 use Rattle.table.specs.declared.Answer.{Answer}
 use Rattle.table.specs.declared.Answer.the-variants.{Accepted, Refused as TableRefused}
-use Rattle.listing.specs.Writes.{over}
+use Rattle.listing.proofs.Texts.{over-whole}
 use Rattle.outcomes.specs.Outcomes.{Copies, Says}
 use Rattle.answers.specs.Asks.{Text}
 use Rattle.outcomes.specs.declared.Outcome.the-variants.{Written, Refused}
@@ -31,20 +30,6 @@ refused-read {text} {w} {w′} q e = table-of text (sym (q .read .is) ∙ ap (λ
 
 pub accepted-read : {text w w′ : List ℕ} {a : Answer} {t : Table} → ReadInto text w w′ a → a ≡ Accepted t → tableOf text ≡ accepted (fromSections (tableFrom t w′))
 accepted-read {text} {w} {w′} q e = table-of text (sym (q .read .is) ∙ ap (λ (x : Answer). outcome x w′) e)
-
--- a text that was written from the beginning on stands there, where there is room for it
-over-within : (front o t : List ℕ) → length t ≤ length o → over (front ++ o) (length front) t ≡ front ++ t ++ drop (length t) o
-over-within front o [] h = ap (λ (l : List ℕ). l ++ o) (sym (append-nil front))
-over-within front [] (b ∷ t) h = absurd (not-suc-le-zero h)
-over-within front (x ∷ o) (b ∷ t) h =
-    let n : suc (length front) ≡ length (front ++ (b ∷ [])) = omega (arith, length-append front (b ∷ [])) in
-    ap (λ (l : List ℕ). over l (suc (length front)) t) (set-append-seam front x o b ∙ sym (append-snoc front b o))
-    ∙ ap (λ (k : ℕ). over (front ++ (b ∷ []) ++ o) k t) n
-    ∙ over-within (front ++ (b ∷ [])) o t (omega arith)
-    ∙ ap (λ (l : List ℕ). l ++ drop (length t) o) (append-snoc front b t)
-
-pub over-whole : (o t : List ℕ) → length t ≤ length o → over o 0 t ≡ t ++ drop (length t) o
-over-whole o t h = over-within [] o t h
 
 -- what a text of that size comes to
 module _ (text out : List ℕ) where

@@ -14,6 +14,6 @@ fn main() {
     let mut text = text_room();
     let n = io::read_full(STDIN_FILENO, &mut text);
     let mut out = io::large_buffer();
-    let size = programs::answer_canon(&text[..n], &mut out);
+    let size = canon_call::program::answer_canon(&text[..n], &mut out);
     programs::show(&out, size as usize);
 }

@@ -1,4 +1,6 @@
 // canon and canon_root. A call tests what is lent to it, refuses a short scratch with 20 before all else, and leaves every scratch zero.
+pub mod program;
+
 ghost use Rattle.canon_call.specs.Called.{IsNoEntry, Answers, Calls, Canon, CanonRoot};
 use answers::asked::Asked;
 use answers::asked::deliver;

@@ -16,7 +16,7 @@ use Rattle.lang_ty.specs.declared.arena.Pass.{Pass}
 use Rattle.lang_ty.specs.declared.arena.Given.{Given}
 use Rattle.lang_ty.specs.declared.arena.Found.{Found}
 use Rattle.lang_ty.specs.declared.arena.Found.the-variants.{At, Nowhere}
-use Rattle.lang_ty.specs.Nodes.{Stands, Answers}
+use Rattle.lang_ty.specs.Nodes.{Stands, Comes, Answers}
 use Rattle.storage.specs.declared.given.Canon.{Canon}
 use Rattle.members.specs.declared.lists.Flow.{Flow}
 use Rattle.members.specs.declared.lists.Flow.the-variants.{On, Refused}
@@ -58,11 +58,8 @@ FirstIs [] f = f ≡ Nowhere
 FirstIs (x ∷ xs) f = f ≡ At x
 
 -- a list settled as a node, whatever is to be done where nothing is left
-pub record SettlesNode (f : (List ℕ → Run ℕ) → Out ℕ) (w : List ℕ) (x : ℕ) (q : Pass) : Type 0 where
-  pub after : State
-  pub is : (rest : List ℕ → Run ℕ) → f rest ≡ ok x after
-  pub stands : Stands after w q
-  pub below : x < length (after .nodes)
+abbrev pub SettlesNode : ((List ℕ → Run ℕ) → Out ℕ) → List ℕ → ℕ → Pass → Type 0
+SettlesNode f w x q = Comes (λ (st : State). (rest : List ℕ → Run ℕ) → f rest ≡ ok x st) (λ (n : ℕ). x < n) w q
 
 -- nothing is left: what is to be done then gets all members before filtering, of which y is the first
 pub record SettlesEmpty (f : (List ℕ → Run ℕ) → Out ℕ) (w : List ℕ) (y : Found) (q : Pass) : Type 0 where

@@ -69,10 +69,10 @@ fn record_at(s: &[u8], a: usize) -> Record
 // What the call that a head names prints, as the first bytes of out; none for a call that is not known.
 fn run(head: &[u8], given: &[u8], out: &mut [u8]) -> u32 {
     if programs::begins(head, 6, b"canon\t") {
-        return programs::answer_canon(given, out);
+        return canon_call::program::answer_canon(given, out);
     }
     if programs::begins(head, 8, b"recheck\t") {
-        return programs::answer_parts(given, out);
+        return recheck_call::program::answer_parts(given, out);
     }
     0
 }

@@ -62,16 +62,16 @@ pub record Poised (table : List ℕ) (c : Canon) (work : List ℕ) (h own : ℕ)
 pub record KeptBelow (h : ℕ) (work work′ : List ℕ) : Type 0 where
   pub is : (k : ℕ) → heldAt ≤ k → k < h → cell work′ k ≡ cell work k
 
--- the rules give node x too, and the slices are as after that
-pub record Gives (o : Out ℕ) (n : ℕ) (w work work′ : List ℕ) (h x : ℕ) (q : Pass) : Type 0 where
+-- the rules come to a state of which this is so, and the slices are as after that
+pub record Comes (Is : State → Type 0) (n : ℕ) (w work work′ : List ℕ) (h : ℕ) (q : Pass) : Type 0 where
   pub after : State
-  pub is : o ≡ ok x after
+  pub is : Is after
   pub stands : Stands after w q
   pub keyed : Keyed n after work′
   pub kept : KeptBelow h work work′
 
 abbrev pub AnswerBy : Out ℕ → ℕ → List ℕ → List ℕ → List ℕ → ℕ → Given → Type 0
-AnswerBy o n w work work′ h (Node x q) = Gives o n w work work′ h x q
+AnswerBy o n w work work′ h (Node x q) = Comes (λ (st : State). o ≡ ok x st) n w work work′ h q
 AnswerBy o n w work work′ h (Refused k) = o ≡ no k
 
 -- the code's answer is that of the rules
@@ -95,25 +95,10 @@ HeldBy o n w work work′ h m (RefusedF k) = o ≡ no k
 pub record AnswersHeld (o : Out (List ℕ)) (n : ℕ) (w work work′ : List ℕ) (h m : ℕ) (r : Flow) : Type 0 where
   pub is : HeldBy o n w work work′ h m r
 
--- an expansion comes to a node, whatever its fallback is
-pub record Gathers (f : Run ℕ → Out ℕ) (n : ℕ) (w work work′ : List ℕ) (h x : ℕ) (q : Pass) : Type 0 where
-  pub after : State
-  pub is : (rest : Run ℕ) → f rest ≡ ok x after
-  pub stands : Stands after w q
-  pub keyed : Keyed n after work′
-  pub kept : KeptBelow h work work′
-
--- an expansion leaves nothing, and its fallback goes on
-pub record FallsBack (f : Run ℕ → Out ℕ) (n : ℕ) (w work work′ : List ℕ) (h : ℕ) (q : Pass) : Type 0 where
-  pub after : State
-  pub is : (rest : Run ℕ) → f rest ≡ rest after
-  pub stands : Stands after w q
-  pub keyed : Keyed n after work′
-  pub kept : KeptBelow h work work′
-
+-- an expansion comes to a node, whatever its fallback is; or it leaves nothing, and its fallback goes on
 abbrev pub GatheredBy : (Run ℕ → Out ℕ) → ℕ → List ℕ → List ℕ → List ℕ → ℕ → Settled → Type 0
-GatheredBy f n w work work′ h (NodeS x q) = Gathers f n w work work′ h x q
-GatheredBy f n w work work′ h (EmptyS y q) = FallsBack f n w work work′ h q
+GatheredBy f n w work work′ h (NodeS x q) = Comes (λ (st : State). (rest : Run ℕ) → f rest ≡ ok x st) n w work work′ h q
+GatheredBy f n w work work′ h (EmptyS y q) = Comes (λ (st : State). (rest : Run ℕ) → f rest ≡ rest st) n w work work′ h q
 GatheredBy f n w work work′ h (RefusedS k) = (rest : Run ℕ) → f rest ≡ no k
 
 pub record AnswersGathered (f : Run ℕ → Out ℕ) (n : ℕ) (w work work′ : List ℕ) (h : ℕ) (r : Settled) : Type 0 where

@@ -51,12 +51,16 @@ pub record Stands (st : State) (w : List ℕ) (q : Pass) : Type 0 where
 abbrev pub shownOf : Shown → List rules.Node → runs.Shown
 shownOf s ns = record { passes = s .passes; operations = s .ops; sorted = s .sorted; bailed = s .bailed; nodes = ns; root = s .node }
 
--- the rules give node x too, and the slice is as after that
-pub record Gives (o : Out ℕ) (w : List ℕ) (x : ℕ) (q : Pass) : Type 0 where
+-- the rules come to a state of which this is so, the slice is as after that, and what they give is below its nodes
+pub record Comes (Is : State → Type 0) (Below : ℕ → Type 0) (w : List ℕ) (q : Pass) : Type 0 where
   pub after : State
-  pub is : o ≡ ok x after
+  pub is : Is after
   pub stands : Stands after w q
-  pub below : x < length (after .nodes)
+  pub below : Below (length (after .nodes))
+
+-- the rules give node x too
+abbrev pub Gives : Out ℕ → List ℕ → ℕ → Pass → Type 0
+Gives o w x q = Comes (λ (st : State). o ≡ ok x st) (λ (n : ℕ). x < n) w q
 
 -- the rules' outcome by the code's answer: a node, or the number of a refusal
 abbrev pub Answer : Out ℕ → List ℕ → Given → Type 0

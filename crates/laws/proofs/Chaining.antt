@@ -1,5 +1,5 @@
 -- The chain of fallbacks ends by itself: four begins are never passed, so that no chain is cut. After the bail each list is begun once; before
--- it a begin of atoms leaves something, so that the chain goes on behind it only if the pass bailed. Assumes nothing.
+-- it a begin of atoms leaves something, so that the chain goes on after it only if the pass bailed. Assumes nothing.
 use mathlib.Core.Path.{_≡_, refl, sym, ap, ap₂, _∙_, subst}
 use mathlib.Core.Bool.{Bool, true, false, not, _||_}
 use Prim.Native.Nat.{ℕ, zero, suc, _+_, _<_}

@@ -101,7 +101,7 @@ module _ (n : Node) (st : State) where
 store-later : (n : Node) (st : State) (x : ℕ) (st′ : State) → (Sound st → OrderlySet (asAttr n)) → store n st ≡ ok x st′ → Later st st′
 store-later n st x st′ u e = later-by n st x st′ (store n st) u (way n st) e
 
--- two steps, one behind the other, that are not refused: neither is
+-- two steps, one after the other, that are not refused: neither is
 pub record Parted {A B : Type 0} (m : Run A) (f : A → Run B) (st : State) (b : B) (st′ : State) : Type 0 where
   pub value : A
   pub between : State

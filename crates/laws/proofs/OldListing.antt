@@ -1,4 +1,4 @@
--- An old listing in form is the line `answers` and its roots' lines, one behind another, byte by byte. Assumes nothing.
+-- An old listing in form is the line `answers` and its roots' lines, one after another, byte by byte. Assumes nothing.
 use mathlib.Core.Path.{_≡_, refl, sym, ap, ap₂, _∙_}
 use mathlib.Core.Bool.{Bool, true, false}
 use Prim.Native.Nat.{ℕ, zero, suc, _+_, _-_, _*_, _/_, _%_, _≤_, _<_}
@@ -30,7 +30,7 @@ none-some e = let z : _≡_ {A = ℕ} 0 1 = cc in absurd (omega arith)
 cons-nil : {A B : Type 0} {x : A} {xs : List A} → _≡_ {A = List A} (x ∷ xs) [] → B
 cons-nil e = let z : _≡_ {A = ℕ} 0 1 = cc in absurd (omega arith)
 
--- what is accepted went on behind each step and each test
+-- what is accepted went on after each step and each test
 pub record Comes {A B : Type 0} (r : Result A) (f : A → Result B) (b : B) : Type 0 where
   pub value : A
   pub is : r ≡ accepted value

@@ -252,7 +252,7 @@ node-line names k n h few f u =
       free = line-free (decimal k ∷ texts) over;
     }
 
--- what is taken of lines that begin with a text's: the text, and what stands behind it is left
+-- what is taken of lines that begin with a text's: the text, and what stands after it is left
 record Takes (text rest : List ℕ) (c : Taking) (o : Result Taking) : Type 0 where
   line : ℕ
   is : o ≡ accepted (record { text = c .text ++ text; line = line; rest = pieces lineFeed rest })

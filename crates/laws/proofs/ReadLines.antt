@@ -19,7 +19,7 @@ use Rattle.laws.proofs.Rows.{field-words-length, set-read}
 use Rattle.cells.specs.Placed.{Holds}
 use mathlib.Core.Option.{Option, none, some}
 
--- the words behind the kind of an entry
+-- the words after the kind of an entry
 abbrev pub restWords : Entry → List ℕ
 restWords (var l u) = length l ∷ (l ++ (length u ∷ u))
 restWords (prim c) = c ∷ []
@@ -144,7 +144,7 @@ record Two (m : ℕ) (xs : List ℕ) : Type 0 where
   most : second ≤ m
   is : xs ≡ first ∷ second ∷ []
 
--- a list behind its length
+-- a list after its length
 record Listed (xs : List ℕ) : Type 0 where
   items : List ℕ
   is : xs ≡ length items ∷ items
@@ -155,7 +155,7 @@ record Bounds (xs : List ℕ) : Type 0 where
   upper : List ℕ
   is : xs ≡ length lower ∷ (lower ++ (length upper ∷ upper))
 
--- a field of a set, such fields, and fields behind their count
+-- a field of a set, such fields, and fields after their count
 record Paired (xs : List ℕ) : Type 0 where
   field : Field
   is : xs ≡ field .key ∷ field .type ∷ []
@@ -259,7 +259,7 @@ some-fields : (p : List ℕ) → Gives Counted (fieldOf someFields p)
 unfolding fieldOf
 some-fields p = fields-counted p
 
--- fields one behind the other
+-- fields one after the other
 shape-none : (fs : List (List ℕ)) → Gives (λ (xs : List ℕ). xs ≡ []) (byShape [] fs)
 shape-none [] = refl
 shape-none (p ∷ ps) = tt
@@ -326,7 +326,7 @@ set-words =
 abbrev pub Long : ℕ → List ℕ → Type 0
 Long n row = length row ≡ n
 
--- what a row of section s is: that of the entry it says; behind its kind a pair has two ids, a mark one, and a root an id and a sign
+-- what a row of section s is: that of the entry it says; after its kind a pair has two ids, a mark one, and a root an id and a sign
 pub record Formal (s : ℕ) (row : List ℕ) : Type 0 where
   pub entry : s ≡ 2 → Shaped row
   pub pair : s ≡ 3 → Long 2 (drop 1 row)

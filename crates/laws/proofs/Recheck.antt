@@ -27,7 +27,7 @@ use Rattle.laws.proofs.PrintedListing.{over-by, line-free, line-pieces,
 use Rattle.laws.proofs.OldListing.{comes, passed, not-stopped, parted-pieces, in-form}
 use Rattle.laws.proofs.Admitting.{Every}
 
--- a text's first line, its words, and what stands behind it
+-- a text's first line, its words, and what stands after it
 abbrev pub firstLine : List ℕ → List ℕ
 firstLine text = getD (pieces lineFeed text) 0 []
 
@@ -147,7 +147,7 @@ module _ (old new : Table) where
   many-told [] h = absurd (not-suc-le-zero h)
   many-told (r ∷ rs) h = ap length (words-told r rs) ∙ length-map (r ∷ rs) told
 
-  -- the first line of a recheck, and what stands behind it
+  -- the first line of a recheck, and what stands after it
   module _ (texts : List (List ℕ)) where
     abbrev line : List ℕ
     line = parted tab (map told (new .roots))
@@ -213,7 +213,7 @@ module _ (old new : Table) where
   many-lines (r ∷ rs) [] m = absurd (let z : ⊥ = omega arith in z)
   many-lines (r ∷ rs) (x ∷ xs) m = ap suc (many-lines rs xs (omega arith))
 
--- old listing and new: before and after are the lines of each root in them, and behind the line `answers` nothing else stands. A root's lines
+-- old listing and new: before and after are the lines of each root in them, and after the line `answers` nothing else stands. A root's lines
 -- are copied byte by byte, unless a chain of bounds or children from it meets an entry that differs: then they are what the new table gives
 pub record KeptCopied (old new : Table) (l text : List ℕ) : Type 0 where
   pub before : List (List ℕ)
@@ -306,7 +306,7 @@ canon-room o lent room l e h =
     let c = canon-accepted o lent l e in
     canon-gives o room (c .table) (c .is) (omega (arith, ap length (c .listing))) ∙ ap (λ (x : List ℕ). accepted x) (sym (c .listing))
 
--- If the old listing is what canon gives for the old table, then what stands behind the first line is what canon gives for the new table
+-- If the old listing is what canon gives for the old table, then what stands after the first line is what canon gives for the new table
 pub fresh : (o n l : List ℕ) (lent room : ℕ) (text : List ℕ) → canon o lent ≡ accepted l → recheck o n l room ≡ accepted text
     → canon n room ≡ accepted (behindFirst text)
 fresh o n l lent room text c e =

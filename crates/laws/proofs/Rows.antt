@@ -199,7 +199,7 @@ no-members (Neg c) a b = refl
 no-members Bottom a b = refl
 no-members Top a b = refl
 
--- a node with members is a union or an intersection, and has them behind its kind and their number
+-- a node with members is a union or an intersection, and has them after its kind and their number
 pub members-row : (n : Node) → 0 < length (members n) → encode n ≡ kindOf n ∷ length (members n) ∷ members n
 members-row (TyVar x) h = absurd (not-suc-le-zero h)
 members-row (Primitive c) h = absurd (not-suc-le-zero h)
@@ -227,7 +227,7 @@ members-only (Neg x) a b c d e = absurd (e refl)
 members-only Bottom a b c d e = refl
 members-only Top a b c d e = refl
 
--- and stand behind the second word of its row
+-- and stand after the second word of its row
 pub children-behind : (n : Node) → (kindOf n ≡ 2 → ⊥) → (kindOf n ≡ 3 → ⊥) → (kindOf n ≡ 8 → ⊥) → (kindOf n ≡ 4 → ⊥) → drop 2 (encode n) ≡ children n
 children-behind (TyVar x) a b c d = refl
 children-behind (Primitive x) a b c d = refl

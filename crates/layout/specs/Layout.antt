@@ -45,7 +45,7 @@ countedCells = 8193
 abbrev pub heldAt : ℕ
 heldAt = 8194
 
--- a merge holds its fields in one of two areas behind each other
+-- a merge holds its fields in one of two areas after each other
 abbrev pub areaLength : ℕ
 areaLength = 2048
 
@@ -69,7 +69,7 @@ reachedAt = 18434
 abbrev pub queueAt : ℕ
 queueAt = 20482
 
--- in the old table of a recheck, behind the places of the roots' old lines
+-- in the old table of a recheck, after the places of the roots' old lines
 abbrev pub redoneAt : ℕ
 redoneAt = 65
 

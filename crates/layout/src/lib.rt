@@ -19,7 +19,7 @@ impl TableSlice {
     pub const LENGTH: usize = 77378;
 }
 
-// The nodes of a pass: where each node's row begins, and where the last ends; then the rows. An index of the store would lie behind them.
+// The nodes of a pass: where each node's row begins, and where the last ends; then the rows. An index of the store would lie after them.
 pub struct ArenaSlice {}
 
 impl ArenaSlice {

@@ -3,8 +3,10 @@ use mathlib.Core.Bool.{Bool}
 use mathlib.Core.Path.{_≡_, refl, sym, ap, subst, _∙_}
 use Prim.Native.Nat.{ℕ, zero, suc, _+_, _-_, _*_, _/_, _%_, _≤_, _<_}
 use native.Mathlib.Omega.{arith}
-use mathlib.Core.List.{List, [], _∷_, _++_}
-use lib.ListN.{length, set, length-append}
+use mathlib.Core.List.{List, [], _∷_, _++_, append-nil}
+use lib.ListN.{length, set, drop, length-append}
+use lib.Seq.{set-append-seam, append-snoc}
+use native.Mathlib.Nat.{not-suc-le-zero}
 use borrow.Author.Tests.{lt-ltb, le-ltb, eq-eqb, ne-eqb}
 use Rattle.cells.specs.Part.{if, cell, part}
 use Rattle.rules.specs.Text.{tab, decimalBy, decimal, fieldText, aSign}
@@ -21,6 +23,20 @@ over-append : (o : List ℕ) (p : ℕ) (t u : List ℕ) → over o p (t ++ u) �
 over-append o p [] u = over-at o u p (p + 0) (omega arith)
 over-append o p (b ∷ bs) u =
     over-append (set o p b) (suc p) bs u ∙ over-at (over (set o p b) (suc p) bs) u (suc p + length bs) (p + suc (length bs)) (omega arith)
+
+-- a text that was written from the beginning on stands there, where there is room for it
+over-within : (front o t : List ℕ) → length t ≤ length o → over (front ++ o) (length front) t ≡ front ++ t ++ drop (length t) o
+over-within front o [] h = ap (λ (l : List ℕ). l ++ o) (sym (append-nil front))
+over-within front [] (b ∷ t) h = absurd (not-suc-le-zero h)
+over-within front (x ∷ o) (b ∷ t) h =
+    let n : suc (length front) ≡ length (front ++ (b ∷ [])) = omega (arith, length-append front (b ∷ [])) in
+    ap (λ (l : List ℕ). over l (suc (length front)) t) (set-append-seam front x o b ∙ sym (append-snoc front b o))
+    ∙ ap (λ (k : ℕ). over (front ++ (b ∷ []) ++ o) k t) n
+    ∙ over-within (front ++ (b ∷ [])) o t (omega arith)
+    ∙ ap (λ (l : List ℕ). l ++ drop (length t) o) (append-snoc front b t)
+
+pub over-whole : (o t : List ℕ) → length t ≤ length o → over o 0 t ≡ t ++ drop (length t) o
+over-whole o t h = over-within [] o t h
 
 pub wrote-none : (p : ℕ) (o : List ℕ) → Wrote [] p o o p
 wrote-none p o = record { to = λ _. omega arith; is = λ _. refl }

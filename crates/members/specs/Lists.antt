@@ -15,7 +15,7 @@ use Rattle.rules.specs.Canonicalizer.{should-drop-filler}
 use Rattle.rules.specs.Canonicalizer as rules
 use Rattle.lang_ty.specs.declared.arena.Pass.{Pass}
 use Rattle.lang_ty.specs.declared.arena.Given.{Given}
-use Rattle.lang_ty.specs.Nodes.{Arena, Stands, Lists as ListNode, Answers as Stores}
+use Rattle.lang_ty.specs.Nodes.{Arena, Comes, Stands, Lists as ListNode, Answers as Stores}
 use Rattle.members.specs.declared.lists.Members.{Members}
 use Rattle.members.specs.declared.lists.Flow.{Flow}
 use Rattle.members.specs.declared.lists.Flow.the-variants.{On, Refused}
@@ -135,11 +135,8 @@ pub record Wraps (kind : ℕ) (wrap : List ℕ → Node) : Type 0 where
   pub is : {k : ℕ} (xs : List ℕ) → Under k xs → ListNode (wrap xs) kind xs k
 
 -- the rules give this list too
-pub record PartIs (o : Out (List ℕ)) (w : List ℕ) (list : List ℕ) (q : Pass) : Type 0 where
-  pub after : State
-  pub is : o ≡ ok list after
-  pub stands : Stands after w q
-  pub below : Under (length (after .nodes)) list
+abbrev pub PartIs : Out (List ℕ) → List ℕ → List ℕ → Pass → Type 0
+PartIs o w list q = Comes (λ (st : State). o ≡ ok list st) (λ (n : ℕ). Under n list) w q
 
 abbrev pub AnswersPart : Out (List ℕ) → List ℕ → AtMostOne → Type 0
 AnswersPart o w (Nothing q) = PartIs o w [] q

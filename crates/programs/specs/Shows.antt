@@ -4,7 +4,7 @@ use Prim.Native.Nat.{ℕ, _≤_}
 use mathlib.Core.List.{List}
 use lib.ListN.{length, take}
 use Rattle.rules.specs.Table.{Result}
-use Rattle.rules.specs.Calls.{leaves, recheck, printed, lent, canonProgram, recheckProgram}
+use Rattle.rules.specs.Calls.{leaves, printed, lent}
 use Rattle.outcomes.specs.Outcomes.{Says}
 use Rattle.outcomes.specs.declared.Outcome.{Outcome}
 
@@ -16,13 +16,3 @@ pub record Shows (text out′ : List ℕ) (r : ℕ) : Type 0 where
 -- what is made of a call's outcome, where the call did what the rules say: the text that it wrote, or the line of its refusal
 pub record ShowsOutcome (outcome : Outcome) (out out′ : List ℕ) (r : ℕ) : Type 0 where
   pub is : (found : List ℕ) (x : Result (List ℕ)) → Says (leaves found x) out outcome → lent ≤ length out → Shows (printed x) out′ r
-
--- "Both programs lend 65,536 bytes of output"
-pub record AnswersCanon (text out out′ : List ℕ) (r : ℕ) : Type 0 where
-  pub is : length out ≡ lent → Shows (canonProgram text) out′ r
-
-pub record AnswersRecheck (old new listing out out′ : List ℕ) (r : ℕ) : Type 0 where
-  pub is : length out ≡ lent → Shows (printed (recheck old new listing lent)) out′ r
-
-pub record AnswersParts (input out out′ : List ℕ) (r : ℕ) : Type 0 where
-  pub is : length out ≡ lent → Shows (recheckProgram input) out′ r

@@ -1,86 +1,49 @@
-// What the programs share: the calls with all scratch lent in full, the parts of an input, and what is written.
+// What the programs share beside the calls: scratch of full length, what is shown of an outcome, the parts of an input, and what is written.
 ghost use mathlib.Core.Path.{_≡_};
 ghost use Prim.Native.Nat.{_≤_};
 ghost use lib.ListN.{length};
 ghost use Rattle.layout.specs.Layout.{draftLength, tableLength, arenaLength, lineLength, workLength};
-ghost use Rattle.programs.specs.Shows.{ShowsOutcome, AnswersCanon, AnswersRecheck, AnswersParts};
+ghost use Rattle.programs.specs.Shows.{ShowsOutcome};
 ghost use Rattle.programs.specs.Parts.{Begins, IsNext, Behind, UntilNext};
-use canon_call::canon;
 use layout::ArenaSlice;
 use layout::DraftSlice;
 use layout::TableSlice;
 use layout::WorkSlice;
 use listing::lines;
 use outcomes::Outcome;
-use recheck_call::recheck;
 
-fn draft_room() -> [u8; DraftSlice::LENGTH]
+pub fn draft_room() -> [u8; DraftSlice::LENGTH]
     ensures { λ r. ⌜ draftLength ≡ length r ⌝ }
 {
     [0u8; DraftSlice::LENGTH]
 }
 
-fn table_room() -> [u32; TableSlice::LENGTH]
+pub fn table_room() -> [u32; TableSlice::LENGTH]
     ensures { λ r. ⌜ tableLength ≡ length r ⌝ }
 {
     [0u32; TableSlice::LENGTH]
 }
 
-fn arena_room() -> [u32; ArenaSlice::LENGTH]
+pub fn arena_room() -> [u32; ArenaSlice::LENGTH]
     ensures { λ r. ⌜ arenaLength ≡ length r ⌝ }
 {
     [0u32; ArenaSlice::LENGTH]
 }
 
-fn line_room() -> [u32; ArenaSlice::LINE]
+pub fn line_room() -> [u32; ArenaSlice::LINE]
     ensures { λ r. ⌜ lineLength ≡ length r ⌝ }
 {
     [0u32; ArenaSlice::LINE]
 }
 
-fn work_room() -> [u32; WorkSlice::LENGTH]
+pub fn work_room() -> [u32; WorkSlice::LENGTH]
     ensures { λ r. ⌜ workLength ≡ length r ⌝ }
 {
     [0u32; WorkSlice::LENGTH]
 }
 
-// The answer to a table, with all scratch lent in full; the bytes to be shown stand in out.
-pub fn answer_canon(text: &[u8], out: &mut [u8]) -> u32
-    ensures { λ r. ⌜ AnswersCanon (now (text .entry)) (now (out .entry)) (now (out .exit)) r ⌝ }
-{
-    let mut draft = draft_room();
-    let mut table = table_room();
-    let mut arena = arena_room();
-    let mut work = work_room();
-    let r = canon(text, out, &mut draft, &mut table, &mut arena, &mut work);
-    shown(r, out)
-}
-
-// The answer to an old table, a new one and an old listing, alike.
-fn answer_recheck(old: &[u8], new: &[u8], listing: &[u8], out: &mut [u8]) -> u32
-    ensures { λ r. ⌜ AnswersRecheck (now (old .entry)) (now (new .entry)) (now (listing .entry)) (now (out .entry)) (now (out .exit)) r ⌝ }
-{
-    let mut draft = draft_room();
-    let mut old_table = table_room();
-    let mut table = table_room();
-    let mut arena = line_room();
-    let mut work = work_room();
-    let r = recheck(
-        old,
-        new,
-        listing,
-        out,
-        &mut draft,
-        &mut old_table,
-        &mut table,
-        &mut arena,
-        &mut work,
-    );
-    shown(r, out)
-}
-
 // How many bytes of out are to be shown: the text that was written there, or the line `refused`.
-fn shown(outcome: Outcome, out: &mut [u8]) -> u32
+pub fn shown(outcome: Outcome, out: &mut [u8]) -> u32
     ensures { λ r. ⌜ ShowsOutcome outcome (now (out .entry)) (now (out .exit)) r ⌝ }
 {
     match outcome {
@@ -110,7 +73,7 @@ fn is_next(s: &[u8], from: usize, i: usize) -> bool
 }
 
 // The part from a place on, up to the first line that is `next`, or to the end of the input.
-fn until_next(s: &[u8], from: usize) -> Part
+pub fn until_next(s: &[u8], from: usize) -> Part
     requires { ⌜ from ≤ length (now s) ⌝ }
     ensures { λ r. ⌜ UntilNext (now (s .entry)) from r ⌝ }
 {
@@ -126,7 +89,7 @@ fn until_next(s: &[u8], from: usize) -> Part
 }
 
 // Where the part after one that ends there begins: after its line `next`, or at the end of the input.
-fn behind(s: &[u8], to: usize) -> usize
+pub fn behind(s: &[u8], to: usize) -> usize
     requires { ⌜ to ≤ length (now s) ⌝ }
     ensures { λ r. ⌜ Behind (length (now (s .entry))) to r ⌝ }
 {
@@ -135,24 +98,6 @@ fn behind(s: &[u8], to: usize) -> usize
         return n;
     }
     to + 5
-}
-
-// The answer to recheck's input: old table, a line `next`, new table, `next`, old listing. "A part left out for want of `next` is empty".
-pub fn answer_parts(input: &[u8], out: &mut [u8]) -> u32
-    ensures { λ r. ⌜ AnswersParts (now (input .entry)) (now (out .entry)) (now (out .exit)) r ⌝ }
-{
-    let old = until_next(input, 0);
-    let old_end = old.to;
-    let new = until_next(input, behind(input, old_end));
-    let new_start = new.from;
-    let new_end = new.to;
-    let rest = behind(input, new_end);
-    answer_recheck(
-        &input[..old_end],
-        &input[new_start..new_end],
-        &input[rest..],
-        out,
-    )
 }
 
 // The first n bytes of a slice written to standard output, as far as it has them.

@@ -15,6 +15,6 @@ fn main() {
     let mut text = text_room();
     let n = io::read_full(STDIN_FILENO, &mut text);
     let mut out = io::large_buffer();
-    let size = programs::answer_parts(&text[..n], &mut out);
+    let size = recheck_call::program::answer_parts(&text[..n], &mut out);
     programs::show(&out, size as usize);
 }

@@ -1,1 +1,2 @@
 pub mod Rechecked
+pub mod Program

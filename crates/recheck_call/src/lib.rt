@@ -1,5 +1,7 @@
 // recheck: the listing of a table that was edited, with the listing from before the edit. A root that no edited entry is reached from
 // keeps its old lines. A call tests what is lent to it, refuses a short scratch with 20 before all else, and leaves every scratch zero.
+pub mod program;
+
 ghost use Rattle.recheck_call.specs.Rechecked.{ComparesBoth, Answers, Rechecked};
 use affected::flag_redone;
 use answers::asked::Asked;

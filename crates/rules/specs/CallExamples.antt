@@ -192,7 +192,7 @@ callExamples =
       result = written "root\t2\t-\t1\t4\t0\t0\t3\n0\tprim\t0\n1\tneg\t0\n2\tunion\t0,1\n";
     }
     ∷ record { call = ofCanonRoot (ascii "budget\t1\nprim\t0\n") 0 7 lent; result = written "root\t0\t-\t1\t1\t0\t0\t1\n0\tprim\t0\n" }
-    -- "Calls that take a root directly refuse one of n or more with 3 and line 0", behind every fault of the table, and before 12
+    -- "Calls that take a root directly refuse one of n or more with 3 and line 0", after every fault of the table, and before 12
     ∷ record { call = ofCanonRoot (ascii "budget\t1\nprim\t0\n") 1 0 0; result = refused 3 0 }
     ∷ record { call = ofCanonRoot (ascii "budget\t1\nprim\t0\nroot\t1\t+\n") 1 0 lent; result = refused 3 3 }
     ∷ record { call = ofCanonRoot (ascii "budget\t1\nfrozen\n") 9 1 lent; result = refused 5 2 }
@@ -248,7 +248,7 @@ callExamples =
     ∷ record { call = ofCanon (ascii "budget\t0\nname\ta\nprim\t0\nname\ta\n") lent; result = refused 1 4 }
     ∷ record { call = ofCanon (ascii "budget\t0\nmark\t0\nfrozen\n") lent; result = refused 1 3 }
     ∷ record { call = ofCanon (ascii "budget\t0\nname\tb\nname\t" ++ times 256 (ascii "a") ++ ascii "\n") lent; result = refused 2 3 }
-    -- the earliest line counts, not the smallest number; 3 comes behind them, whatever its line
+    -- the earliest line counts, not the smallest number; 3 comes after them, whatever its line
     ∷ record { call = ofCanon (ascii "budget\t0\nfrozen\nprim\t32\n") lent; result = refused 5 2 }
     ∷ record { call = ofCanon (ascii "budget\t0\nlist\t9\nfrozen\n") lent; result = refused 5 3 }
     -- 6: "a 97th key would be in progress", K12; "and refuse one root: its listing line is `refused`, id, sign, number, and other roots go on"

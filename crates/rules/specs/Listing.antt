@@ -34,7 +34,7 @@ headKinds =
     ∷ kind (ascii "refused") (aNumber ∷ aSign ∷ aNumber ∷ [])
     ∷ []
 
--- the words of such a line behind the number of its kind: a listing's root count; id and sign of a root; its passes and node count, or the number
+-- the words of such a line after the number of its kind: a listing's root count; id and sign of a root; its passes and node count, or the number
 -- of its refusal
 abbrev pub countWord : ℕ
 countWord = 1

@@ -40,7 +40,7 @@ bare-snoc (x ∷ rs) r = ap (λ (l : List (List ℕ)). drop 1 x ∷ l) (bare-sno
 empty : (f g : ℕ → List ℕ) (a b n : ℕ) → n ≡ 0 → run f a n ≡ run g b n
 empty f g a b n e = ap (run f a) e ∙ sym (ap (run g b) e)
 
--- the beginning of the row behind the last, where that ends
+-- the beginning of the row after the last, where that ends
 abbrev noted : List ℕ → ℕ → ℕ → List ℕ
 noted w n to = set w (rowsAt + n) to
 

@@ -34,7 +34,7 @@ use mathlib.Core.Option.{Option}
 pub row-by : {b s : List ℕ} {from to top : ℕ} {w w′ : List ℕ} {r : Got} → Kinds b → Row (kindsIn b 16) s from to top w w′ r → Row kinds s from to top w w′ r
 row-by {s = s} {from} {to} {top} {w} {w′} {r} h x = subst (λ (ks : List Kind). Row ks s from to top w w′ r) (h .are) x
 
--- what is written of a row stands behind the beginnings of rows
+-- what is written of a row stands after the beginnings of rows
 row-apart : {text w w′ : List ℕ} {from to : ℕ} {p : Progress} {r : Got} → Ready text from to w p → Row kinds text from to (p .top) w w′ r → Apart w w′
 row-apart {p = p} h x = record {
   same-length = x .wrote .above .same-length;

@@ -253,7 +253,7 @@ outcome (Refused k l) w = refused k l
 abbrev pub rows : Table → ℕ
 rows t = 1 + t .names + t .entries + t .pairs + t .marks + t .roots
 
--- the rows stand one after the other, behind their beginnings and within the slice
+-- the rows stand one after the other, after their beginnings and within the slice
 pub record Laid (t : Table) (w : List ℕ) : Type 0 where
   pub few : Few t
   pub order : (i : ℕ) → i < rows t → beginAt w i ≤ beginAt w (i + 1)
@@ -297,7 +297,7 @@ abbrev pub takenOf : Verdict → List ℕ → Admission
 takenOf (TakenV p) w = admitted (readingOf p w)
 takenOf (Fault k) w = fault k
 
--- the rows so far stand one after the other, behind their beginnings, and end at top
+-- the rows so far stand one after the other, after their beginnings, and end at top
 pub record Layout (p : Progress) (w : List ℕ) : Type 0 where
   pub ends : beginAt w (p .lines) ≡ p .top
   pub order : (i : ℕ) → i < p .lines → beginAt w i ≤ beginAt w (i + 1)

@@ -327,7 +327,7 @@ fn unread() -> Progress
     }
 }
 
-// No row yet: the first is to begin behind the beginnings of rows.
+// No row yet: the first is to begin after the beginnings of rows.
 pub fn start(table: &mut [u32])
     requires { ⌜ tableLength ≤ length (now table) ⌝ }
     ensures { λ _. ⌜ Started (now (table .entry)) (now (table .exit)) ⌝ }

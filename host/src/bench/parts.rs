@@ -9,7 +9,7 @@ use crate::limits::{within, NEAR_CELLS, NEAR_NODES};
 /// Seeds that are tried for parts that fit.
 const SEEDS: u64 = 400;
 
-/// Tables of a profile, one behind another in one table of about `size`
+/// Tables of a profile, one after another in one table of about `size`
 /// entries; none if no two thirds of it can be filled.
 pub fn joined(profile: usize, size: usize, part: u64, single: bool) -> Option<Table> {
     let mut whole = Table {

@@ -4,7 +4,7 @@ use oracle::rng::Rng;
 use oracle::table::Entry;
 use oracle::{gen, reader, Root, Set, Table};
 
-/// The number of such tables among the kinds of tables, behind the profiles.
+/// The number of such tables among the kinds of tables, after the profiles.
 pub const JOINED: usize = gen::PROFILES.len();
 
 /// The names of the kinds of tables that are counted each by itself.
@@ -13,7 +13,7 @@ pub fn kinds() -> impl Iterator<Item = &'static str> {
     profiles.chain(["joined"])
 }
 
-/// A table behind another, with at most so many of its roots: ids are moved,
+/// A table after another, with at most so many of its roots: ids are moved,
 /// names are shared.
 pub fn behind(first: &Table, next: &Table, most: usize) -> Table {
     let mut whole = first.clone();

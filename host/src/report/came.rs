@@ -4,7 +4,7 @@ use std::collections::{BTreeMap, BTreeSet};
 
 use super::rows::{print_heads, print_row};
 
-/// 0 for written, or the number of the refusal, and words behind it.
+/// 0 for written, or the number of the refusal, and words after it.
 pub type Came = (u32, &'static str);
 /// Of the inputs of one kind.
 pub type Counts = BTreeMap<Came, u64>;

@@ -199,7 +199,7 @@ fn two_ways(count: u32, within: Option<Around>) -> Vec<u8> {
     let named = draft.named(0, prim);
     let class = draft.var(&[], &[]);
     let itself = draft.tyvar(class);
-    // Its lower bound is the entry behind the chain.
+    // Its lower bound is the entry after the chain.
     let turn = draft.var(&[5 + 3 * count], &[]);
     let (mut upper, mut lower) = (turn, named);
     let mut vars = Vec::new();

@@ -105,7 +105,7 @@ fn all_redone(text: &[u8]) -> Input {
     }
 }
 
-/// The first line behind `answers`, without its word.
+/// The first line after `answers`, without its word.
 fn told(outcome: Outcome, out: &[u8]) -> String {
     let Ok(length) = outcome else {
         return format!("{outcome:?}");

@@ -41,7 +41,7 @@ pub fn signatures(before: &str, after: &str) -> (Marked, Marked) {
     marked
 }
 
-/// The lines that one text has and the other lacks, behind `-` or `+`.
+/// The lines that one text has and the other lacks, after `-` or `+`.
 pub fn lines(before: &str, after: &str) -> Vec<String> {
     let diff = TextDiff::from_lines(before, after);
     let changes = diff.iter_all_changes();

@@ -22,7 +22,7 @@ const fn stated(slice: &str, name: &str) -> usize {
     number(at)
 }
 
-/// The place behind the first such words from a place on.
+/// The place after the first such words from a place on.
 const fn behind(words: &str, from: usize) -> usize {
     let mut at = from;
     while !stand(words.as_bytes(), at) {

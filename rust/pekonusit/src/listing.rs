@@ -172,7 +172,7 @@ impl<'a> Lines<'a> {
         Some(Root { id, sign, answer })
     }
 
-    /// The nodes behind a root's line whose counts and marks are these.
+    /// The nodes after a root's line whose counts and marks are these.
     fn shown(
         &mut self,
         (passes, operations): (u32, u32),

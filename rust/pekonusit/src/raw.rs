@@ -137,7 +137,7 @@ pub fn canon_root(
     })
 }
 
-/// The listing of the new table behind a line of `kept` or `redone` for each
+/// The listing of the new table after a line of `kept` or `redone` for each
 /// root. Its arena is the longer one.
 #[allow(clippy::too_many_arguments)] // as the export has them
 pub fn recheck(

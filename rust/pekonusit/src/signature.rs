@@ -10,7 +10,7 @@ use crate::refusal::limit_words;
 pub struct View {
     /// Of a longer one the parts so many levels down are cut.
     pub depth: u8,
-    /// If it is too long even so, it ends behind so many bytes.
+    /// If it is too long even so, it ends after so many bytes.
     pub length: usize,
 }
 

@@ -1,10 +1,10 @@
 -- Each search ends where the rules cut, so the three slices are their three parts; a part that is left out is empty in both.
 use mathlib.Core.Path.{sym}
 use lib.Seq.{length-take-le}
-use Rattle.programs.proofs.Showing.{parts-shown}
+use Rattle.recheck_call.proofs.Showing.{parts-shown}
 use borrow.Author.Needs.{needs}
-use Rattle.programs.proofs.answer_parts.Statement.{statement}
-use Rattle.programs.proofs.answer_parts.Tie as tie
+use Rattle.recheck_call.proofs.program.answer_parts.Statement.{statement}
+use Rattle.recheck_call.proofs.program.answer_parts.Tie as tie
 
 slice-aggregate-answer-recheck : tie.Need-slice-aggregate-answer-recheck
 slice-aggregate-answer-recheck c = sym (length-take-le _ _ (search needs))

@@ -1,8 +1,8 @@
 -- All scratch is lent in full, so the call is not refused for want of it and comes to the rules' recheck.
-use Rattle.programs.proofs.Showing.{recheck-shown}
+use Rattle.recheck_call.proofs.Showing.{recheck-shown}
 use borrow.Author.Needs.{needs}
-use Rattle.programs.proofs.answer_recheck.Statement.{statement}
-use Rattle.programs.proofs.answer_recheck.Tie as tie
+use Rattle.recheck_call.proofs.program.answer_recheck.Statement.{statement}
+use Rattle.recheck_call.proofs.program.answer_recheck.Tie as tie
 
 returns : tie.Need-returns
 returns c =

@@ -1,8 +1,8 @@
 -- All scratch is lent in full, so the call is not refused for want of it and comes to the rules' canon.
-use Rattle.programs.proofs.Showing.{canon-shown}
+use Rattle.canon_call.proofs.Showing.{canon-shown}
 use borrow.Author.Needs.{needs}
-use Rattle.programs.proofs.answer_canon.Statement.{statement}
-use Rattle.programs.proofs.answer_canon.Tie as tie
+use Rattle.canon_call.proofs.program.answer_canon.Statement.{statement}
+use Rattle.canon_call.proofs.program.answer_canon.Tie as tie
 
 returns : tie.Need-returns
 returns c =
