@@ -33,13 +33,13 @@ use Rattle.members.specs.declared.lists.AtMostOne.{AtMostOne}
 use Rattle.members.specs.declared.lists.AtMostOne.the-variants.{Refused as RefusedP}
 use Rattle.members.specs.declared.lists.Grown.{Grown}
 use Rattle.members.specs.declared.lists.Grown.the-variants.{On as OnG, Refused as RefusedG}
-use Rattle.members.specs.Lists.{Few, Lists, Taken, Makes, Tests, Gives, AnswersFlow, Answers, Runs, Asks, Refuses, Contains, Beside, MembersOf, Gathered, ofKind, sift, Soles, AnswersGrown, Grows, Joined, AsListed, firstOf, Pairs}
+use Rattle.members.specs.Lists.{Few, Lists, Taken, Makes, Tests, Gives, AnswersFlow, Answers, Runs, Asks, Refuses, Contains, Beside, KeepsIf, MembersOf, Gathered, ofKind, sift, Soles, AnswersGrown, Grows, Joined, AsListed, firstOf, Pairs}
 use Rattle.members.specs.Flattens.{Listing}
 use Rattle.factor.specs.declared.Wanted.{Wanted}
 use Rattle.factor.specs.declared.Wanted.the-variants.{InAllOthers, NotAmong}
 use Rattle.factor.specs.Factors.{hasMember, inOthers, picked, Picks, Remains, AnswersMore, Leaves, behind, Placed, PutIn, Inserts, Marked, SolesAny, beside, FactorsParts, afterRests, FactorsRests, FactorsUnions, FactorsOne}
 use Rattle.laws.proofs.Filtering.{under-both, under-most, any-here, any-more, any-done}
-use Rattle.members.proofs.Gathered.{few-lists, few-at, few-below, gathered-none, gathered-few, gathered-list, taken-list, alone, listed, Sifted, Searched, all-not, wraps-union, wraps-intersection, refuses}
+use Rattle.members.proofs.Gathered.{Tried, Sifting, sifting-start, sifting-more, sifting-done, Searching, searching-start, searching-here, searching-more, searching-done, few-lists, few-at, few-below, gathered-none, gathered-few, gathered-list, taken-list, alone, listed, Searched, all-not, wraps-union, wraps-intersection, refuses}
 use Rattle.members.proofs.Flattened.{by-length}
 use Rattle.members.proofs.Negated.{arena-pass}
 use Rattle.members.proofs.Partway.{Loops, Partway, partway-start, partway-more, partway-no, partway-done}
@@ -77,8 +77,28 @@ module _ {w : List ℕ} {u x n : ℕ} where
   having-done {i} count c le = record { is = λ {q} {ns} h lt. any-done (eqb x) (membersAt ns u) i (c .is h lt) (omega (arith, count .is h lt)) }
 
 -- `in_all_others`: none of the others lacks it
-pub others-is : (x : ℕ) {w ms : List ℕ} {n : ℕ} {b r : Bool} → Searched alone (λ _ ns u. not (hasMember x ns u)) w ms 1 n b → r ≡ not b → Tests (inOthers x) w (firstOf n ms) r
-others-is x g e = record { is = λ {q} {ns} {xs} h m. e ∙ ap not (g .is tt h tt m) ∙ sym (all-not (hasMember x ns) (drop 1 xs)) }
+pub record Lacking (x : ℕ) (w ms : List ℕ) (n i : ℕ) : Type 0 where
+  pub is : Searching alone (λ _ ns u. not (hasMember x ns u)) w ms 1 n i
+
+others-are : (x : ℕ) {w ms : List ℕ} {n : ℕ} {b : Bool} → Searched alone (λ _ ns u. not (hasMember x ns u)) w ms 1 n b → Tests (inOthers x) w (firstOf n ms) (not b)
+others-are x g = record { is = λ {q} {ns} {xs} h m. ap not (g .is tt h tt m) ∙ sym (all-not (hasMember x ns) (drop 1 xs)) }
+
+pub lacking-start : {x : ℕ} {w ms : List ℕ} {n : ℕ} → Lacking x w ms n 1
+lacking-start = record { is = searching-start }
+
+module _ {x : ℕ} {w ms : List ℕ} {n i : ℕ} (c : Lacking x w ms n i) where
+  module _ {u : ℕ} {b : Bool} (a : Asks (hasMember x) w u b) (e : u ≡ cell ms i) (lt : i < n) where
+    tried : Tried alone (λ _ ns u. not (hasMember x ns u)) w u (not b)
+    tried = record { is = λ _ h p l. ap not (a .is h l) }
+
+    pub lacking-here : not b ≡ true → Tests (inOthers x) w (firstOf n ms) false
+    lacking-here z = others-are x (searching-here (c .is) lt e tried z)
+
+    pub lacking-more : not b ≡ false → Lacking x w ms n (i + 1)
+    lacking-more z = record { is = searching-more (c .is) lt e tried z }
+
+  pub lacking-done : n ≤ i → Tests (inOthers x) w (firstOf n ms) true
+  lacking-done le = others-are x (searching-done (c .is) le)
 
 -- `is_picked` and `pick`
 module _ {t : Wanted} {w ms : List ℕ} {n x : ℕ} {r : Bool} where
@@ -91,8 +111,19 @@ module _ {t : Wanted} {w ms : List ℕ} {n x : ℕ} {r : Bool} where
   pub picked-among : {b : Bool} → t ≡ NotAmong → Contains ms n x b → r ≡ not b → Beside (picked t) w ms n x r
   picked-among e h z = picked-by e (record { is = λ a m lt. z ∙ ap not (h .is ∙ ap (λ (l : List ℕ). contains l x) (taken-list m)) })
 
-pub picks-done : {f : List Node → List ℕ → ℕ → Bool} {w ms : List ℕ} {n u : ℕ} {m r : Members} → MembersOf w u m → Sifted (listed ms n) (λ xs ns. f ns xs) w m r → Picks f w ms n u r
-picks-done a g = record { is = λ {q} {ns} {xs} h t lt. g .is xs h t (a .is h lt) }
+pub record Picking (t : Wanted) (w s : List ℕ) (n : ℕ) (m : Members) (out : List ℕ) (k i : ℕ) : Type 0 where
+  pub is : Sifting (listed s n) (λ xs ns. picked t ns xs) w (m .at) (m .count) out k i
+
+pub picking-start : {t : Wanted} {w s : List ℕ} {n : ℕ} {m : Members} → Picking t w s n m (replicate mostMembers 0) 0 0
+picking-start = record { is = sifting-start }
+
+module _ {t : Wanted} {w s : List ℕ} {n : ℕ} {m : Members} {out : List ℕ} {k i : ℕ} (c : Picking t w s n m out k i) where
+  pub picking-more : {x : ℕ} {b : Bool} {out′ : List ℕ} {k′ : ℕ} → KeepsIf out k x b out′ k′ → Beside (picked t) w s n x b → x ≡ cell (m .at) i → i < m .count
+      → Picking t w s n m out′ k′ (i + 1)
+  picking-more keeps a e lt = record { is = sifting-more (c .is) lt e (record { is = λ xs h l le. a .is h l le }) keeps }
+
+  pub picking-done : {u : ℕ} → MembersOf w u m → m .count ≤ i → Picks (picked t) w s n u (firstOf k out)
+  picking-done a le = record { is = λ {q} {ns} {xs} h l lt. sifting-done (c .is) le .is xs h l (a .is h lt) }
 
 -- `sole` gives no more than one
 one-most : (o : Out ℕ) {l : List ℕ} {st : State} → bind o (λ z. give (z ∷ [])) ≡ ok l st → length l ≤ 1
@@ -123,18 +154,20 @@ rest xs u = λ st. sole Union (without xs (membersAt (st .nodes) u)) st
 rest-loops : (xs : List ℕ) → Loops (rest xs) (remainders xs)
 rest-loops xs = record { none = λ st. refl; more = λ u us st. refl; keeps = λ u st. keeps-union (without xs (membersAt (st .nodes) u)) st }
 
-pub record Leaving (w₀ : List ℕ) (p : Pass) (ms : List ℕ) (n : ℕ) (us : List ℕ) (c : ℕ) (w out : List ℕ) (k : ℕ) (q : Pass) (i : ℕ) : Type 0 where
-  pub few : i ≤ c
-  pub is : {st : State} {xs ys : List ℕ} → Stands st w₀ p → Taken (firstOf n ms) xs (p .nodes) → Taken (firstOf c us) ys (p .nodes) → Partway (remainders xs) ys st w q out k i
+pub record Leaving (w₀ : List ℕ) (p : Pass) (s us : Members) (w out : List ℕ) (k : ℕ) (q : Pass) (i : ℕ) : Type 0 where
+  pub few : i ≤ us .count
+  pub small : us .count ≤ 4294967295
+  pub words : length w ≡ length w₀
+  pub is : {st : State} {xs ys : List ℕ} → Stands st w₀ p → Taken s xs (p .nodes) → Taken us ys (p .nodes) → Partway (remainders xs) ys st w q out k i
 
-module _ {w₀ : List ℕ} {p : Pass} {ms : List ℕ} {n : ℕ} {us : List ℕ} {c : ℕ} where
-  pub leaving-start : Leaving w₀ p ms n us c w₀ (replicate mostMembers 0) 0 p 0
-  leaving-start = record { few = omega arith; is = λ on t m. partway-start on }
+module _ {w₀ : List ℕ} {p : Pass} {s us : Members} where
+  pub leaving-start : us .count ≤ 4294967295 → Leaving w₀ p s us w₀ (replicate mostMembers 0) 0 p 0
+  leaving-start le = record { few = omega arith; small = le; words = refl; is = λ on t m. partway-start on }
 
-  module _ {w out w′ out′ : List ℕ} {k : ℕ} {q : Pass} {i u : ℕ} {g : Grown} (a : Leaving w₀ p ms n us c w out k q i) (lt : i < c) (e : u ≡ cell us i)
-      (r : Remains w q ms n u out k w′ out′ g) where
+  module _ {w out w′ out′ : List ℕ} {k : ℕ} {q : Pass} {i u : ℕ} {g : Grown} (a : Leaving w₀ p s us w out k q i) (r : Remains w q (s .at) (s .count) u out k w′ out′ g)
+      (lt : i < us .count) (e : u ≡ cell (us .at) i) where
     -- what the call gives for the union
-    called : {st : State} {xs ys : List ℕ} {h : Grown} → g ≡ h → (on : Stands st w₀ p) (t : Taken (firstOf n ms) xs (p .nodes)) (m : Taken (firstOf c us) ys (p .nodes))
+    called : {st : State} {xs ys : List ℕ} {h : Grown} → g ≡ h → (on : Stands st w₀ p) (t : Taken s xs (p .nodes)) (m : Taken us ys (p .nodes))
         → AnswersGrown (rest xs (getD ys i 0) (a .is on t m .now)) w′ (a .is on t m .got) out′ h
     called {xs = xs} {ys = ys} z on t m =
         let l = a .is on t m in
@@ -147,14 +180,16 @@ module _ {w₀ : List ℕ} {p : Pass} {ms : List ℕ} {n : ℕ} {us : List ℕ} 
         (subst (λ (v : ℕ). AnswersGrown (rest xs v (l .now)) w′ (l .got) out′ g) (few-at (m .list) e lt)
         (r .is (l .stands) (taken-most (omega arith) t) (omega (arith, few-below m e lt)) (l .gathered) (omega (arith, l .few))))
 
-    pub leaving-more : {k′ : ℕ} {q′ : Pass} → g ≡ OnG k′ q′ → Leaving w₀ p ms n us c w′ out′ k′ q′ (i + 1)
-    leaving-more z =
+    pub leaving-more : {k′ : ℕ} {q′ : Pass} → g ≡ OnG k′ q′ → length w′ ≡ length w → Leaving w₀ p s us w′ out′ k′ q′ (i + 1)
+    leaving-more z long =
         record {
           few = omega arith;
+          small = a .small;
+          words = long ∙ a .words;
           is = λ {st} {xs} {ys} on t m. partway-more (rest-loops xs) (a .is on t m) (omega (arith, m .list .count)) (called z on t m);
         }
 
-    pub leaves-refused : {j : ℕ} {res : Listed} → g ≡ RefusedG j → Refuses j res → Leaves w₀ p (firstOf n ms) (firstOf c us) w′ res
+    pub leaves-refused : {j : ℕ} {res : Listed} → g ≡ RefusedG j → Refuses j res → Leaves w₀ p s us w′ res
     leaves-refused {j} {res} z f =
         record {
           is = λ {st} {xs} {us = ys} on t m.
@@ -162,8 +197,8 @@ module _ {w₀ : List ℕ} {p : Pass} {ms : List ℕ} {n : ℕ} {us : List ℕ} 
               (partway-no (rest-loops xs) (a .is on t m) (omega (arith, m .list .count)) (called z on t m));
         }
 
-  pub leaves-done : {w out : List ℕ} {k : ℕ} {q : Pass} {i : ℕ} → Leaving w₀ p ms n us c w out k q i → c ≤ i
-      → Leaves w₀ p (firstOf n ms) (firstOf c us) w (record { flow = On q; members = firstOf k out })
+  pub leaves-done : {w out : List ℕ} {k : ℕ} {q : Pass} {i : ℕ} → Leaving w₀ p s us w out k q i → us .count ≤ i
+      → Leaves w₀ p s us w (record { flow = On q; members = firstOf k out })
   leaves-done a le =
       record {
         is = λ {st} {xs} {us = ys} on t m.

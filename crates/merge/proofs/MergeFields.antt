@@ -2,7 +2,10 @@
 use mathlib.Core.Path.{_≡_, refl, sym, ap, ap₂, _∙_, subst}
 use mathlib.Core.Bool.{Bool, true, false, _||_}
 use mathlib.Core.Logic.{_⊎_, inl, inr, ⊎-elim}
-use Prim.Native.Nat.{ℕ, suc, _+_, _*_, _≤_, _<_}
+use Prim.Native.Nat.{ℕ, suc, _+_, _-_, _*_, _≤_, _<_}
+use native.Mathlib.Nat.{eq-zero-or-pos}
+use mir.Syntax.{w32}
+use mir.Val.{Fits}
 use native.Mathlib.Omega.{arith}
 use mathlib.Core.List.{List, [], _∷_, _++_, append-nil, append-assoc}
 use lib.ListN.{length, set, drop, length-map, length-set, length-append, drop-of-length-le, List·getD-map, List·getD-append}
@@ -302,6 +305,11 @@ module _ (held : List ℕ) (b k key ty : ℕ) where
       (ap (cell (putAt held b k key ty)) (omega arith) ∙ getD-set-same (set held (b + 2 * k) key) (b + 2 * k + 1) ty 0 (omega (arith, length-set held (b + 2 * k) key)))
       (holds-none (putAt held b k key ty) (suc (suc (b + 2 * k))))))))
 
+-- a sum fits its number
+sum-small : {a b r : ℕ} → Sum a b r → r ≤ 4294967295
+sum-small {a} {b} sum =
+    ⊎-elim (λ z. let f = sum .is (omega arith) in omega arith) (λ z. let f = sum .full (omega arith) in omega arith) (eq-zero-or-pos (a + b - 4294967295))
+
 -- the sweep: i of the held fields and j of the set's are taken, what they come to is held at b, and the rules are as far
 pub record Swept (st : State) (fs : List Field) (t : Attr) (w held : List ℕ) (q : Pass) (a b i j k : ℕ) : Type 0 where
   pub now : State
@@ -322,16 +330,23 @@ pub record Swept (st : State) (fs : List Field) (t : Attr) (w held : List ℕ) (
   pub few : k ≤ i + j
   pub is : mergeFields fs (t .fields) st ≡ mergeFields (done ++ drop i fs) (drop j (t .fields)) now
 
-pub record Sweeping (w₀ held₀ : List ℕ) (p : Pass) (g : Merging) (x b : ℕ) (w held : List ℕ) (q : Pass) (i j k : ℕ) : Type 0 where
+pub record Sweeping (w₀ held₀ : List ℕ) (p : Pass) (g : Merging) (x b m most : ℕ) (w held : List ℕ) (q : Pass) (i j k : ℕ) : Type 0 where
+  pub words : length w ≡ length w₀
   pub cells : length held ≡ length held₀
+  pub all : Sum (g .fields) m most
+  pub fields : {st : State} {t : Attr} → Stands st w₀ p → SetNode st p x t → m ≡ length (t .fields)
   pub kept : (c : ℕ) → c < b → cell held c ≡ cell held₀ c
   pub is : {st : State} {fs : List Field} {d : Option ℕ} {t : Attr} → Stands st w₀ p → Got held₀ g fs d (p .nodes) → SetNode st p x t → Free held₀ (g .area) b
       → Swept st fs t w held q (g .area) b i j k
 
-pub sweeping-start : {w held : List ℕ} {p : Pass} {g : Merging} {x b : ℕ} → Sweeping w held p g x b w held p 0 0 0
-sweeping-start {held = held} {b = b} =
+pub sweeping-start : {w held : List ℕ} {p : Pass} {g : Merging} {x b p₀ m most : ℕ} → SetPlace w x p₀ → Fields w p₀ m → Sum (g .fields) m most
+    → Sweeping w held p g x b m most w held p 0 0 0
+sweeping-start {held = held} {b = b} place fields all =
     record {
+      words = refl;
       cells = refl;
+      all = all;
+      fields = λ on node. fields .is (place .is (on .arena) (omega (arith, node .known, on .arena .count)) (node .node));
       kept = λ c lt. refl;
       is = λ {st} on got node free.
           record {
@@ -356,15 +371,15 @@ sweeping-start {held = held} {b = b} =
     }
 
 -- the turn of the loop
-module _ {w₀ held₀ : List ℕ} {p : Pass} {g : Merging} {x b : ℕ} {w held : List ℕ} {q : Pass} {i j k p₀ m : ℕ}
-    (inv : Sweeping w₀ held₀ p g x b w held q i j k) (first : SetPlace w₀ x p₀) (fields : Fields w₀ p₀ m) where
+module _ {w₀ held₀ : List ℕ} {p : Pass} {g : Merging} {x b m most : ℕ} {w held : List ℕ} {q : Pass} {i j k : ℕ}
+    (inv : Sweeping w₀ held₀ p g x b m most w held q i j k) where
   module _ {st : State} {fs : List Field} {d : Option ℕ} {t : Attr} (on : Stands st w₀ p) (got : Got held₀ g fs d (p .nodes)) (node : SetNode st p x t)
       (free : Free held₀ (g .area) b) where
     abbrev mid : Swept st fs t w held q (g .area) b i j k
     mid = inv .is on got node free
 
     fields-are : m ≡ length (t .fields)
-    fields-are = fields .is (first .is (on .arena) (omega (arith, node .known, on .arena .count)) (node .node))
+    fields-are = inv .fields on node
 
     longer : length (st .nodes) ≤ length (mid .now .nodes)
     longer = omega (arith, ap length (mid .nodes), length-append (st .nodes) (mid .more))
@@ -460,7 +475,14 @@ module _ {w₀ held₀ : List ℕ} {p : Pass} {g : Merging} {x b : ℕ} {w held 
           ∙ sweep (mid .done) fs (t .fields) i j (mid .bound) (mid .now) (mid .low) (mid .left) (mid .right) next c
           ∙ ap (λ (o : Out Field). bind o (λ y. mergeFields ((mid .done ++ (y ∷ [])) ++ drop (i + oldTaken next) fs) (drop (j + newTaken next) (t .fields)))) e
 
-  module _ {most r : ℕ} {goes : Bool} {next : Next} {flow : Flow} {w′ held′ : List ℕ}
+  module _ {goes : Bool} (on : GoesOn k most i (g .fields) j m goes) (e : goes ≡ true) where
+    pub sweeping-fits : Fits w32 (k + 1)
+    sweeping-fits = omega (arith, on .some e .0, sum-small (inv .all))
+
+    pub sweeping-less : most - (k + 1) < most - k
+    sweeping-less = omega (arith, on .some e .0)
+
+  module _ {r : ℕ} {goes : Bool} {next : Next} {flow : Flow} {w′ held′ : List ℕ}
       (on : GoesOn k most i (g .fields) j m goes) (e : goes ≡ true) (place : SetPlace w x r) (c : ComesNext w held (g .area) i (g .fields) r j m next)
       (call : MergesField w held q next (g .area) i r j b k w′ held′ flow) where
     answered : {st : State} {fs : List Field} {d : Option ℕ} {t : Attr} (up : Stands st w₀ p) (got : Got held₀ g fs d (p .nodes)) (node : SetNode st p x t)
@@ -473,10 +495,13 @@ module _ {w₀ held₀ : List ℕ} {p : Pass} {g : Merging} {x b : ℕ} {w held 
         (under-most (p .nodes) (q .nodes) (fieldTypes fs) (nodes-most up got node free) (got .types)) (t-types up got node free) z
         (fits up got node free next z)
 
-    pub sweeping-more : {q′ : Pass} {u v i′ j′ : ℕ} → flow ≡ OnF q′ → u ≡ oldTaken next → Sum i u i′ → v ≡ newTaken next → Sum j v j′ → length held′ ≡ length held
-        → Sweeping w₀ held₀ p g x b w′ held′ q′ i′ j′ (k + 1)
-    sweeping-more {q′} {u} {v} {i′} {j′} f eu su ev sv long =
+    pub sweeping-more : {q′ : Pass} {u v i′ j′ : ℕ} → flow ≡ OnF q′ → u ≡ oldTaken next → Sum i u i′ → v ≡ newTaken next → Sum j v j′ → length w′ ≡ length w → length held′ ≡ length held
+        → Sweeping w₀ held₀ p g x b m most w′ held′ q′ i′ j′ (k + 1)
+    sweeping-more {q′} {u} {v} {i′} {j′} f eu su ev sv wide long =
         record {
+          words = wide ∙ inv .words;
+          all = inv .all;
+          fields = inv .fields;
           cells = long ∙ inv .cells;
           kept = λ c lt. call .kept c lt ∙ inv .kept c lt;
           is = λ {st} {fs} {d} {t} up got node free.
@@ -502,9 +527,9 @@ module _ {w₀ held₀ : List ℕ} {p : Pass} {g : Merging} {x b : ℕ} {w held 
               (mid up got node free .now) w′ held held′ b k o) f (answered up got node free));
         }
 
-  pub sweeping-done : {most : ℕ} {goes : Bool} {g′ : Merging} → GoesOn k most i (g .fields) j m goes → goes ≡ false → Sum (g .fields) m most → g′ ≡ fieldsAt g k b
+  pub sweeping-done : {goes : Bool} {g′ : Merging} → GoesOn k most i (g .fields) j m goes → goes ≡ false → g′ ≡ fieldsAt g k b
       → MergesFields w₀ held₀ p g x b w held (On g′ q)
-  sweeping-done {most} {goes} {g′} goes-on e sum f =
+  sweeping-done {g′ = g′} goes-on e f =
       subst (λ (v : Merging). MergesFields w₀ held₀ p g x b w held (On v q)) (sym f)
       (record {
         kept = inv .kept;
@@ -513,7 +538,7 @@ module _ {w₀ held₀ : List ℕ} {p : Pass} {g : Merging} {x b : ℕ} {w held 
             let a = fields-are on got node free in
             let few = fs-few on got node free in
             let few′ = t-few on got node free in
-            let most-is : most ≡ g .fields + m = sum .is (omega (arith, got .count)) in
+            let most-is : most ≡ g .fields + m = inv .all .is (omega (arith, got .count)) in
             let ends : (length fs ≤ i) × (length (t .fields) ≤ j) =
             ⊎-elim (λ l. (omega (arith, z .few, z .few-old, z .few-new, got .count), omega (arith, z .few, z .few-old, z .few-new, got .count)))
             (λ l. (omega (arith, l .0, got .count), omega (arith, l .1))) (goes-on .none e) in

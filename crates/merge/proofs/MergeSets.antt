@@ -5,6 +5,8 @@ use mathlib.Core.Logic.{_⊎_, inl, inr, ⊎-elim}
 use Prim.Native.Nat.{ℕ, suc, _+_, _-_, _≤_, _<_}
 use native.Mathlib.Omega.{arith}
 use native.Mathlib.Nat.{eq-zero-or-pos}
+use mir.Syntax.{w32}
+use mir.Val.{Fits}
 use native.Mathlib.Numerals.{add-one}
 use mathlib.Core.List.{List, [], _∷_, _++_, append-nil, append-assoc}
 use lib.ListN.{length, getD, drop, length-append, drop-of-length-le, List·getD-append}
@@ -32,7 +34,8 @@ use Rattle.lang_ty.proofs.Stores.{gives, refuses, stored-intersection}
 use Rattle.merge.specs.declared.Merging.{Merging}
 use Rattle.merge.specs.declared.Merged.{Merged}
 use Rattle.merge.specs.declared.Merged.the-variants.{On, Refused}
-use Rattle.members.specs.Lists.{Taken, firstOf}
+use Rattle.members.specs.declared.lists.Members.{Members}
+use Rattle.members.specs.Lists.{Taken}
 use Rattle.merge.specs.Merges.{Roomy, Got, dynAt, SetNode, Free, AnswersFields, MergesFields, DynGot, AnswersDyn, MergesDyn, OtherArea, Then, Arrived, AnswersMerged, MergesOne, AllSets, MergesAll}
 use Rattle.laws.proofs.Filtering.{under-at, under-most, under-back}
 use Rattle.members.proofs.Gathered.{few-at, few-below}
@@ -178,7 +181,7 @@ module _ {w : List ℕ} {q : Pass} {g : Merging} {p n : ℕ} (has : Dyns w p n) 
             }
 
 -- `other_area`
-pub area-behind : {h a r : ℕ} → a ≡ h → Sum h areaLength r → h ≤ 4294967295 → OtherArea h a r
+pub area-behind : {h a r : ℕ} → a ≡ h → Sum h areaLength r → Fits w32 h → OtherArea h a r
 area-behind {h} e sum le =
     record {
       low = ⊎-elim (λ z. let f = sum .is (omega arith) in omega arith) (λ z. let f = sum .full (omega arith) in omega arith) (eq-zero-or-pos (h + areaLength - 4294967295));
@@ -283,17 +286,21 @@ attrs-drop ns xs i all lt =
     ∙ ap (λ (j : ℕ). setAt ns xs i ∷ attrsOf ns (drop j xs)) (sym (add-one i))
 
 -- `merge_sets` at member i
-pub record Passing (w₀ held₀ : List ℕ) (h : ℕ) (p : Pass) (ms : List ℕ) (n : ℕ) (w held : List ℕ) (g : Merging) (q : Pass) (i : ℕ) : Type 0 where
-  pub few : i ≤ n
+pub record Passing (w₀ held₀ : List ℕ) (h : ℕ) (p : Pass) (s : Members) (w held : List ℕ) (g : Merging) (q : Pass) (i : ℕ) : Type 0 where
+  pub few : i ≤ s .count
+  pub small : s .count ≤ 4294967295
+  pub words : length w ≡ length w₀
   pub cells : length held ≡ length held₀
   pub kept : (c : ℕ) → c < h → cell held c ≡ cell held₀ c
-  pub is : {st : State} {xs : List ℕ} → Stands st w₀ p → Ordered (st .nodes) → Taken (firstOf n ms) xs (p .nodes) → AllSets (st .nodes) xs → Roomy held₀ h
+  pub is : {st : State} {xs : List ℕ} → Stands st w₀ p → Ordered (st .nodes) → Taken s xs (p .nodes) → AllSets (st .nodes) xs → Roomy held₀ h
       → Arrived (λ then. mergeAttrs [] none (attrsOf (st .nodes) xs) then st) (attrsOf (st .nodes) (drop i xs)) st w held h g q
 
-pub passing-start : {w held : List ℕ} {h : ℕ} {p : Pass} {ms : List ℕ} {n : ℕ} → Passing w held h p ms n w held (record { fields = 0; area = h; dyns = 0; «dyn_type» = 0 }) p 0
-passing-start {held = held} {h = h} =
+pub passing-start : {w held : List ℕ} {h : ℕ} {p : Pass} {s : Members} → s .count ≤ 4294967295 → Passing w held h p s w held (record { fields = 0; area = h; dyns = 0; «dyn_type» = 0 }) p 0
+passing-start {held = held} {h = h} small =
     record {
       few = omega arith;
+      small = small;
+      words = refl;
       cells = refl;
       kept = λ c lt. refl;
       is = λ {st} on ordered m all roomy.
@@ -318,10 +325,9 @@ passing-start {held = held} {h = h} =
           };
     }
 
-module _ {w₀ held₀ : List ℕ} {h : ℕ} {p : Pass} {ms : List ℕ} {n : ℕ} {w held : List ℕ} {g : Merging} {q : Pass} {i : ℕ}
-    (inv : Passing w₀ held₀ h p ms n w held g q i) where
-  module _ {y : ℕ} {w′ held′ : List ℕ} {r : Merged} (lt : i < n) (e : y ≡ cell ms i) (call : MergesOne w held h q g y w′ held′ r) where
-    module _ {st : State} {xs : List ℕ} (on : Stands st w₀ p) (ordered : Ordered (st .nodes)) (m : Taken (firstOf n ms) xs (p .nodes)) (all : AllSets (st .nodes) xs)
+module _ {w₀ held₀ : List ℕ} {h : ℕ} {p : Pass} {s : Members} {w held : List ℕ} {g : Merging} {q : Pass} {i : ℕ} (inv : Passing w₀ held₀ h p s w held g q i) where
+  module _ {y : ℕ} {w′ held′ : List ℕ} {r : Merged} (call : MergesOne w held h q g y w′ held′ r) (lt : i < s .count) (e : y ≡ cell (s .at) i) where
+    module _ {st : State} {xs : List ℕ} (on : Stands st w₀ p) (ordered : Ordered (st .nodes)) (m : Taken s xs (p .nodes)) (all : AllSets (st .nodes) xs)
         (roomy : Roomy held₀ h) where
       abbrev sofar : Arrived (λ then. mergeAttrs [] none (attrsOf (st .nodes) xs) then st) (attrsOf (st .nodes) (drop i xs)) st w held h g q
       sofar = inv .is on ordered m all roomy
@@ -373,10 +379,12 @@ module _ {w₀ held₀ : List ℕ} {h : ℕ} {p : Pass} {ms : List ℕ} {n : ℕ
       passed : AnswersMerged (λ then. mergeAttrs [] none (attrsOf (st .nodes) xs) then st) left st w′ held′ h r
       passed = passed-by r went
 
-    pub passing-more : {g′ : Merging} {q′ : Pass} → r ≡ On g′ q′ → length held′ ≡ length held → Passing w₀ held₀ h p ms n w′ held′ g′ q′ (i + 1)
-    passing-more f long =
+    pub passing-more : {g′ : Merging} {q′ : Pass} → r ≡ On g′ q′ → length w′ ≡ length w → length held′ ≡ length held → Passing w₀ held₀ h p s w′ held′ g′ q′ (i + 1)
+    passing-more f wide long =
         record {
           few = omega arith;
+          small = inv .small;
+          words = wide ∙ inv .words;
           cells = long ∙ inv .cells;
           kept = λ c l. call .kept c l ∙ inv .kept c l;
           is = λ {st} {xs} on ordered m all roomy.
@@ -384,7 +392,7 @@ module _ {w₀ held₀ : List ℕ} {h : ℕ} {p : Pass} {ms : List ℕ} {n : ℕ
               (passed on ordered m all roomy);
         }
 
-    pub passing-refused : {k : ℕ} → r ≡ Refused k → MergesAll w₀ held₀ h p (firstOf n ms) w′ held′ (Refused k)
+    pub passing-refused : {k : ℕ} → r ≡ Refused k → MergesAll w₀ held₀ h p s w′ held′ (Refused k)
     passing-refused f =
         record {
           kept = λ c l. call .kept c l ∙ inv .kept c l;
@@ -393,7 +401,7 @@ module _ {w₀ held₀ : List ℕ} {h : ℕ} {p : Pass} {ms : List ℕ} {n : ℕ
               (passed on ordered m all roomy);
         }
 
-  pub passing-done : n ≤ i → MergesAll w₀ held₀ h p (firstOf n ms) w held (On g q)
+  pub passing-done : s .count ≤ i → MergesAll w₀ held₀ h p s w held (On g q)
   passing-done le =
       record {
         kept = inv .kept;

@@ -12,7 +12,7 @@ use lib.Dec.{eqb}
 use borrow.Author.Tests.{eqb-true, eqb-false, not-true, not-false}
 use Rattle.cells.specs.Part.{cell, part, if}
 use Rattle.cells.specs.Sum.{Sum}
-use Rattle.cells.proofs.Holding.{holds-none, holds-place, holds-cons, holds-both, holds-ext}
+use Rattle.cells.proofs.Holding.{holds-none, holds-place, holds-cons}
 use Rattle.rules.specs.Ceilings.{mostMembers, mostNames}
 use Rattle.rules.specs.Plain.{all, filter, contains, empty}
 use Rattle.rules.specs.Table.{Field, Attr, fieldKeys, fieldTypes, dynIds}
@@ -27,9 +27,8 @@ use Rattle.lang_ty.specs.Nodes.{highest, Arena, Stands, Interned, Written, Answ
 use Rattle.lang_ty.specs.Nodes as nodes
 use Rattle.lang_ty.specs.Sets.{SetAt, Open, HasField, HasOptional}
 use Rattle.lang_ty.specs.Shapes.{SetPlace}
-use Rattle.lang_ty.proofs.Stores.{interned-set}
 use Rattle.lang_ty.proofs.Words.{high}
-use Rattle.lang_ty.proofs.Rows.{written-none, written-more, written-list, written-both, written-two, stands-below}
+use Rattle.lang_ty.proofs.Rows.{stored-row, Copying, copied, copying-more, written-none, written-more, written-list, written-both, written-two, stands-below}
 use Rattle.members.specs.declared.lists.Members.{Members}
 use Rattle.members.specs.declared.lists.Flow.{Flow}
 use Rattle.members.specs.declared.lists.Flow.the-variants.{On as OnF}
@@ -40,7 +39,7 @@ use Rattle.merge.specs.declared.Merged.the-variants.{On, Refused}
 use Rattle.members.specs.Lists.{Few, Taken, Makes, ofKind, sift, Refuses, WithLast, AnswersFlow, Answers, firstOf}
 use Rattle.merge.specs.declared.SetTest.{SetTest}
 use Rattle.merge.specs.declared.SetTest.the-variants.{Allows as AllowsT, Open as OpenT}
-use Rattle.merge.specs.Merges.{MergesSets, HeldKey, Got, Then, Arrived, AnswersMerged, AllSets, MergesAll, allowed, opened, setTest, Passes, AllPass, OpenIfAll, frontWords, WritesFields, PutsIf, optionalKeys, WritesOptional, mergedNode, StoresMerged, MergedLast}
+use Rattle.merge.specs.Merges.{MergesSets, HeldKey, Got, Then, Arrived, AnswersMerged, AllSets, MergesAll, allowed, opened, setTest, Passes, AllPass, OpenIfAll, frontWords, backWords, WritesDyn, WritesFields, WritesFlags, PutsIf, optionalKeys, WritesOptional, mergedNode, StoresMerged, MergedLast}
 use Rattle.laws.proofs.Filtering.{filter-take, filter-length, under-at, under-both, under-most}
 use Rattle.members.proofs.Gathered.{few-at, few-below}
 use Rattle.merge.proofs.Fields.{rise-length}
@@ -116,7 +115,12 @@ module _ {w ms : List ℕ} {n : ℕ} {b : Bool} (c : AllPass opened w ms n b) wh
   pub open-not : b ≡ false → OpenIfAll w ms n 0
   open-not e = open-by e
 
--- `write_fields`
+-- `write_held`, one number more
+pub held-more : {t : ℕ} {w₀ w w′ held : List ℕ} {a n i p o v : ℕ} → Copying t w₀ held a n w i → w′ ≡ set w p v → v ≡ cell held o → p ≡ t + i → o ≡ a + i → i < n
+    → Copying t w₀ held a n w′ (i + 1)
+held-more inv put get to from lt = copying-more inv lt (copied to from get put)
+
+-- the words of a dyn
 words-none : (d : Option ℕ) → length (dynIds d) ≡ 0 → dynWords d ≡ 0 ∷ []
 words-none none e = refl
 words-none (some x) e = absurd (omega arith)
@@ -139,52 +143,54 @@ before-dyn got two more =
     let x = two .is (omega arith) in
     more .is (omega arith) ∙ omega arith
 
-module _ {w w1 w2 w3 held : List ℕ} {t p1 f n : ℕ} {g : Merging} (two : Sum (g .fields) (g .fields) n) (first : w1 ≡ set w t 4) (e1 : p1 ≡ t + 1)
-    (second : w2 ≡ set w1 p1 (g .fields)) (sum : Sum t 2 f) (rest : Written f w2 w3 (part held (g .area) n)) where
-  front : {fs : List Field} {d : Option ℕ} {k : ℕ} → Got held g fs d k → t ≤ highest → Written t w w3 (4 ∷ length fs ∷ fieldWords fs)
+-- `write_dyn`
+module _ {w w1 : List ℕ} {t d p : ℕ} {g : Merging} (first : w1 ≡ set w p (g .dyns)) (e1 : p ≡ t + d) where
+  pub dyn-lacks : {r : ℕ} → g .dyns ≡ 0 → Sum d 1 r → WritesDyn w t d g w1 r
+  dyn-lacks e last =
+      record {
+        is = λ {dyn = dyn} {xs = xs} got h size le.
+            written-list (ap (λ (l : List ℕ). xs ++ l) (ap (λ (v : ℕ). v ∷ []) e ∙ sym (words-none dyn (sym (got .dyns) ∙ e))))
+            (written-more (g .dyns) h (omega arith) first);
+        size = λ {dyn = dyn} got le. last .is (omega arith) ∙ omega (arith, dyn-words-length dyn, got .dyns);
+      }
+
+  pub dyn-has : {w2 : List ℕ} {o p2 r : ℕ} → w2 ≡ set w1 p2 (g .«dyn_type») → p2 ≡ t + o → (g .dyns ≡ 0 → ⊥) → Sum d 1 o → Sum d 2 r → WritesDyn w t d g w2 r
+  dyn-has second e2 e next last =
+      record {
+        is = λ {dyn = dyn} {xs = xs} got h size le.
+            let one : g .dyns ≡ 1 = omega (arith, got .dyns, few-dyns dyn, e) in
+            let y = got .dyn (omega (arith, got .dyns)) in
+            let z = next .is (omega arith) in
+            written-list
+            (append-snoc xs (g .dyns) (g .«dyn_type» ∷ [])
+            ∙ ap (λ (l : List ℕ). xs ++ l) (ap₂ (λ (u v : ℕ). u ∷ v ∷ []) one y ∙ sym (words-some dyn (λ v. e (got .dyns ∙ v)))))
+            (written-more (g .«dyn_type») (written-more (g .dyns) h (omega arith) first) (omega (arith, length-append xs (g .dyns ∷ []))) second);
+        size = λ {dyn = dyn} got le. last .is (omega arith) ∙ omega (arith, dyn-words-length dyn, few-dyns dyn, got .dyns, e);
+      }
+
+-- `write_fields`
+module _ {w w1 w2 w3 w′ held : List ℕ} {t p f n d r : ℕ} {g : Merging} (two : Sum (g .fields) (g .fields) n) (first : w1 ≡ set w t 4) (e : p ≡ t + 1)
+    (second : w2 ≡ set w1 p (g .fields)) (sum : Sum t 2 f) (rest : Written f w2 w3 (part held (g .area) n)) (more : Sum n 2 d) (last : WritesDyn w3 t d g w′ r) where
+  front : {fs : List Field} {dyn : Option ℕ} {k : ℕ} → Got held g fs dyn k → t ≤ highest → Written t w w3 (4 ∷ length fs ∷ fieldWords fs)
   front {fs} got le =
       let few = got-few got in
       let c = got .count in
       let n-is : n ≡ length (fieldWords fs) = two .is (omega arith) ∙ omega (arith, field-words-length fs) in
       written-list (ap₂ (λ (a : ℕ) (l : List ℕ). 4 ∷ a ∷ l) c (ap (part held (g .area)) n-is ∙ got .holds .is))
-      (written-both (written-two first e1 second) (sum .is (omega arith)) rest)
+      (written-both (written-two first e second) (sum .is (omega arith)) rest)
 
-  module _ {d p : ℕ} {w4 : List ℕ} (more : Sum n 2 d) (e2 : p ≡ t + d) (third : w4 ≡ set w3 p (g .dyns)) where
-    pub writes-none : {r : ℕ} → g .dyns ≡ 0 → Sum d 1 r → WritesFields w t held g w4 r
-    writes-none e last =
-        record {
-          is = λ {fs} {d = dyn} got le.
-              written-list
-              (ap (λ (l : List ℕ). 4 ∷ length fs ∷ (fieldWords fs ++ l)) (ap (λ (v : ℕ). v ∷ []) e ∙ sym (words-none dyn (sym (got .dyns) ∙ e))))
-              (written-more (g .dyns) (front got le) (omega (arith, before-dyn got two more, field-words-length fs)) third);
-          size = λ {fs} {d = dyn} got.
-              let x = before-dyn got two more in
-              let few = got-few got in
-              last .is (omega arith) ∙ omega (arith, front-length fs dyn, got .dyns);
-        }
-
-    pub writes-some : {o p2 r : ℕ} {w5 : List ℕ} → (g .dyns ≡ 0 → ⊥) → Sum d 1 o → p2 ≡ t + o → w5 ≡ set w4 p2 (g .«dyn_type») → Sum d 2 r → WritesFields w t held g w5 r
-    writes-some e next e3 fourth last =
-        record {
-          is = λ {fs} {d = dyn} got le.
-              let x = before-dyn got two more in
-              let few = got-few got in
-              let one : g .dyns ≡ 1 = omega (arith, got .dyns, few-dyns dyn, e) in
-              let y = got .dyn (omega (arith, got .dyns)) in
-              let size = length-append (fieldWords fs) (g .dyns ∷ []) in
-              let z = next .is (omega arith) in
-              written-list
-              (append-snoc (4 ∷ length fs ∷ fieldWords fs) (g .dyns) (g .«dyn_type» ∷ [])
-              ∙ ap (λ (l : List ℕ). 4 ∷ length fs ∷ (fieldWords fs ++ l))
-              (ap₂ (λ (u v : ℕ). u ∷ v ∷ []) one y ∙ sym (words-some dyn (λ v. e (got .dyns ∙ v)))))
-              (written-more (g .«dyn_type»)
-              (written-more (g .dyns) (front got le) (omega (arith, field-words-length fs)) third)
-              (omega (arith, field-words-length fs)) fourth);
-          size = λ {fs} {d = dyn} got.
-              let x = before-dyn got two more in
-              let few = got-few got in
-              last .is (omega arith) ∙ omega (arith, front-length fs dyn, got .dyns, few-dyns dyn, e);
-        }
+  pub writes-fields : WritesFields w t held g w′ r
+  writes-fields =
+      record {
+        is = λ {fs} got le.
+            let few = got-few got in
+            let x = before-dyn got two more in
+            last .is got (front got le) (omega (arith, field-words-length fs)) (omega arith);
+        size = λ {fs} {d = dyn} got.
+            let few = got-few got in
+            let x = before-dyn got two more in
+            last .size got (omega arith) ∙ omega (arith, front-length fs dyn, dyn-words-length dyn);
+      }
 
 -- `put_if`
 puts-by-none : {w : List ℕ} {o : ℕ} (k x : ℕ) (b : Bool) → not b ≡ true → PutsIf w o k x b w k
@@ -219,18 +225,20 @@ pub record Chosen (ts : List Attr) (fs : List Field) (o : ℕ) (w₀ w : List �
 
 pub record Choosing (w₀ : List ℕ) (o : ℕ) (held ms : List ℕ) (c a n : ℕ) (w : List ℕ) (k i : ℕ) : Type 0 where
   pub few : i ≤ n
+  pub words : length w ≡ length w₀
   pub is : {q : Pass} {ns : List rules.Node} {xs : List ℕ} (fs : List Field) → Arena w₀ q ns → Taken (firstOf c ms) xs (length ns) → AllSets ns xs
       → n ≡ length fs → Holds held a (fieldWords fs) → length fs ≤ mostNames → cell w₀ (q .nodes) ≤ o → Chosen (attrsOf ns xs) fs o w₀ w k i
 
 module _ {w₀ : List ℕ} {o : ℕ} {held ms : List ℕ} {c : ℕ} where
   pub choosing-start : {a n : ℕ} → Choosing w₀ o held ms c a n w₀ 0 0
-  choosing-start = record { few = omega arith; is = λ fs h m sets e l f le. record { written = written-none o w₀; count = refl } }
+  choosing-start = record { few = omega arith; words = refl; is = λ fs h m sets e l f le. record { written = written-none o w₀; count = refl } }
 
   pub choosing-more : {w w′ : List ℕ} {a n k k′ i key : ℕ} {b : Bool} → Choosing w₀ o held ms c a n w k i → i < n → HeldKey held a i key
-      → AllPass (allowed key) w ms c b → PutsIf w o k key b w′ k′ → Choosing w₀ o held ms c a n w′ k′ (i + 1)
-  choosing-more {w} {w′} {a} {n} {k} {k′} {i} {key} {b} inv lt hk opt put =
+      → AllPass (allowed key) w ms c b → PutsIf w o k key b w′ k′ → length w′ ≡ length w → Choosing w₀ o held ms c a n w′ k′ (i + 1)
+  choosing-more {w} {w′} {a} {n} {k} {k′} {i} {key} {b} inv lt hk opt put long =
       record {
         few = omega arith;
+        words = long ∙ inv .words;
         is = λ {q} {ns} {xs} fs h m sets size held-at few le.
             let mid = inv .is fs h m sets size held-at few le in
             let ts = attrsOf ns xs in
@@ -252,31 +260,83 @@ module _ {w₀ : List ℕ} {o : ℕ} {held ms : List ℕ} {c : ℕ} where
             };
       }
 
-  pub choosing-done : {g : Merging} {w : List ℕ} {k i : ℕ} → Choosing w₀ o held ms c (g .area) (g .fields) w k i → g .fields ≤ i → WritesOptional w₀ o held g (firstOf c ms) w k
-  choosing-done {g} {i = i} inv le =
-      let whole : (fs : List Field) → g .fields ≡ length fs → take i (fieldKeys fs) ≡ fieldKeys fs =
-      λ fs e. take-all i (fieldKeys fs) (omega (arith, length-map fs (λ (f : Field). f .key))) in
-      record {
-        is = λ {q} {ns} {xs} {fs} h m sets got low.
-            written-list (ap (filter (optionalInAll (attrsOf ns xs))) (whole fs (got .count)))
-            (inv .is fs h m sets (got .count) (got .holds) (got-few got) low .written);
-        size = λ {q} {ns} {xs} {fs} h m sets got low.
-            inv .is fs h m sets (got .count) (got .holds) (got-few got) low .count
-            ∙ ap (λ (l : List ℕ). length (filter (optionalInAll (attrsOf ns xs)) l)) (whole fs (got .count));
-      }
+pub choosing-done : {w₀ : List ℕ} {o : ℕ} {held : List ℕ} {s : Members} {g : Merging} {w : List ℕ} {k i : ℕ}
+    → Choosing w₀ o held (s .at) (s .count) (g .area) (g .fields) w k i → g .fields ≤ i → WritesOptional w₀ o held g s w k
+choosing-done {g = g} {i = i} inv le =
+    let whole : (fs : List Field) → g .fields ≡ length fs → take i (fieldKeys fs) ≡ fieldKeys fs =
+    λ fs e. take-all i (fieldKeys fs) (omega (arith, length-map fs (λ (f : Field). f .key))) in
+    record {
+      is = λ {q} {ns} {xs} {fs} h m sets got low.
+          written-list (ap (filter (optionalInAll (attrsOf ns xs))) (whole fs (got .count)))
+          (inv .is fs h m sets (got .count) (got .holds) (got-few got) low .written);
+      size = λ {q} {ns} {xs} {fs} h m sets got low.
+          inv .is fs h m sets (got .count) (got .holds) (got-few got) low .count
+          ∙ ap (λ (l : List ℕ). length (filter (optionalInAll (attrsOf ns xs)) l)) (whole fs (got .count));
+    }
+
+-- `write_flags`
+module _ (opens : ℕ) {w w2 w3 w4 held : List ℕ} {o o2 k p : ℕ} {g : Merging} {m : Members} (e2 : w2 ≡ set w o opens) (so2 : Sum o 2 o2)
+    (opt : WritesOptional w2 o2 held g m w3 k) (ep : p ≡ o + 1) (e4 : w4 ≡ set w3 p k) where
+  module _ {q : Pass} {ns : List rules.Node} {xs : List ℕ} {fs : List Field} {d : Option ℕ} {n : ℕ} (h : Arena w q ns) (taken : Taken m xs (length ns))
+      (sets : AllSets ns xs) (got : Got held g fs d n) (low : cell w (q .nodes) ≤ o) (le : o + 2 ≤ 4294967295) where
+    abbrev opts : List ℕ
+    opts = optionalKeys (attrsOf ns xs) fs
+
+    o2-is : o2 ≡ suc (suc o)
+    o2-is = so2 .is le ∙ omega arith
+
+    long2 : length w2 ≡ length w
+    long2 = ap length e2 ∙ length-set w o opens
+
+    below2 : (c : ℕ) → c < o → cell w2 c ≡ cell w c
+    below2 c lt = ap (λ (v : List ℕ). cell v c) e2 ∙ getD-set-other w o c opens 0 (omega arith)
+
+    then : Arena w2 q ns
+    then = arena-alike h long2 (λ c lt. below2 c (omega arith))
+
+    top-low : cell w2 (q .nodes) ≤ o2
+    top-low = omega (arith, o2-is, below2 (q .nodes) (omega (arith, high h, h .few)))
+
+    chose : Written o2 w2 w3 opts
+    chose = opt .is then taken sets got top-low
+
+    k-is : k ≡ length opts
+    k-is = opt .size then taken sets got top-low
+
+    -- below the optional keys only their number comes last
+    below4 : (c : ℕ) → c < o2 → (c ≡ p → ⊥) → cell w4 c ≡ cell w2 c
+    below4 c lt ne = ap (λ (v : List ℕ). cell v c) e4 ∙ getD-set-other w3 p c k 0 ne ∙ chose .below c lt
+
+    flagged : Written o w w4 (backWords opens opts)
+    flagged =
+        let b = o2-is in
+        let l = long2 in
+        record {
+          same-length = ap length e4 ∙ length-set w3 p k ∙ chose .same-length ∙ long2;
+          below = λ c lt. below4 c (omega arith) (λ z. omega arith) ∙ below2 c lt;
+          row = λ room.
+              holds-cons (below4 o (omega arith) (λ z. omega arith) ∙ ap (λ (v : List ℕ). cell v o) e2 ∙ getD-set-same w o opens 0 (omega arith))
+              (holds-cons
+              (ap₂ (λ (v : List ℕ) (i : ℕ). cell v i) e4 (sym (ep ∙ omega arith)) ∙ getD-set-same w3 p k 0 (omega (arith, chose .same-length)) ∙ k-is)
+              (holds-place b
+              (holds-alike (chose .row (omega arith)) (λ i lo hi. ap (λ (v : List ℕ). cell v i) e4 ∙ getD-set-other w3 p i k 0 (λ z. omega arith)))));
+        }
+
+  pub writes-flags : WritesFlags w o opens held g m w4 k
+  writes-flags = record { is = λ h taken sets got low le. flagged h taken sets got low le; size = λ h taken sets got low le. k-is h taken sets got low le }
 
 -- `store_merged`
-module _ {w w1 w2 w3 w4 held w′ : List ℕ} {q : Pass} {g : Merging} {m : Members} {t opens len o o2 k p l2 l3 f2 cells : ℕ} {r : Given}
-    (top : nodes.Top w q t) (op : OpenIfAll w (m .at) (m .count) opens) (front : WritesFields w t held g w1 len) (so : Sum t len o) (e2 : w2 ≡ set w1 o opens)
-    (so2 : Sum o 2 o2) (opt : WritesOptional w2 o2 held g m w3 k) (ep : p ≡ o + 1) (e4 : w4 ≡ set w3 p k)
-    (sl2 : Sum len 2 l2) (sl3 : Sum l2 k l3) (sf2 : Sum (g .fields) (g .fields) f2) (sc : Sum f2 k cells) (int : Interned w4 q l3 cells w′ r) where
+module _ {w w1 w2 held w′ : List ℕ} {q : Pass} {g : Merging} {m : Members} {t opens len o k l2 l3 f2 cells : ℕ} {r : Given}
+    (top : nodes.Top w q t) (op : OpenIfAll w (m .at) (m .count) opens) (front : WritesFields w t held g w1 len) (so : Sum t len o)
+    (flags : WritesFlags w1 o opens held g m w2 k) (sl2 : Sum len 2 l2) (sl3 : Sum l2 k l3) (sf2 : Sum (g .fields) (g .fields) f2) (sc : Sum f2 k cells)
+    (int : Interned w2 q l3 cells w′ r) where
   module _ {st : State} {xs : List ℕ} {fs : List Field} {d : Option ℕ} (on : Stands st w q) (taken : Taken m xs (q .nodes)) (sets : AllSets (st .nodes) xs)
       (got : Got held g fs d (q .nodes)) where
     abbrev ts : List Attr
     ts = attrsOf (st .nodes) xs
 
-    abbrev opts : List ℕ
-    opts = optionalKeys ts fs
+    abbrev keys : List ℕ
+    keys = optionalKeys ts fs
 
     low : t ≤ highest
     low = omega (arith, top .is, on .arena .top, on .arena .few, on .arena .cells)
@@ -294,91 +354,46 @@ module _ {w w1 w2 w3 w4 held w′ : List ℕ} {q : Pass} {g : Merging} {m : Memb
         let c = low in
         so .is (omega arith) ∙ omega arith
 
-    o2-is : o2 ≡ suc (suc o)
-    o2-is = let a = o-is in let b = len-few in let c = low in so2 .is (omega arith) ∙ omega arith
+    o-few : o + 2 ≤ 4294967295
+    o-few = omega (arith, o-is, len-few, low)
 
     known : Taken m xs (length (st .nodes))
     known = subst (λ (n : ℕ). Taken m xs n) (sym (on .arena .count)) taken
 
-    long2 : length w2 ≡ length w
-    long2 = ap length e2 ∙ length-set w1 o opens ∙ wrote .same-length
+    now : Arena w1 q (st .nodes)
+    now = arena-alike (on .arena) (wrote .same-length) (λ c lt. wrote .below c (omega (arith, top .is)))
 
-    below2 : (c : ℕ) → c < t → cell w2 c ≡ cell w c
-    below2 c lt = ap (λ (v : List ℕ). cell v c) e2 ∙ getD-set-other w1 o c opens 0 (omega (arith, o-is)) ∙ wrote .below c lt
+    top-under : cell w1 (q .nodes) ≤ o
+    top-under = omega (arith, top .is, o-is, wrote .below (q .nodes) (omega (arith, top .is, high (on .arena), on .arena .few)))
 
-    then : Arena w2 q (st .nodes)
-    then = arena-alike (on .arena) long2 (λ c lt. below2 c (omega (arith, top .is)))
+    keys-few : length keys ≤ mostNames
+    keys-few = omega (arith, filter-length (optionalInAll ts) (fieldKeys fs), length-map fs (λ (f : Field). f .key), got-few got)
 
-    behind : q .nodes < t
-    behind = omega (arith, top .is, high (on .arena), on .arena .few)
-
-    top-low : cell w2 (q .nodes) ≤ o2
-    top-low = omega (arith, top .is, o-is, o2-is, below2 (q .nodes) behind)
-
-    chose : Written o2 w2 w3 opts
-    chose = opt .is then known sets got top-low
-
-    k-is : k ≡ length opts
-    k-is = opt .size then known sets got top-low
-
-    opts-few : length opts ≤ mostNames
-    opts-few = omega (arith, filter-length (optionalInAll ts) (fieldKeys fs), length-map fs (λ (f : Field). f .key), got-few got)
-
-    long4 : length w4 ≡ length w
-    long4 = ap length e4 ∙ length-set w3 p k ∙ chose .same-length ∙ long2
-
-    -- below the optional keys only their number comes last
-    below4 : (c : ℕ) → c < o2 → (c ≡ p → ⊥) → cell w4 c ≡ cell w2 c
-    below4 c lt ne = ap (λ (v : List ℕ). cell v c) e4 ∙ getD-set-other w3 p c k 0 ne ∙ chose .below c lt
-
-    room4 : o2 + length opts ≤ length w
-    room4 = omega (arith, o2-is, o-is, len-few, opts-few, low, on .arena .room)
-
-    row : Holds w4 t (frontWords fs d ++ (openIfAll ts ∷ length opts ∷ opts))
+    row : Written t w w2 (frontWords fs d ++ backWords (openIfAll ts) keys)
     row =
-        let a = o-is in
-        let b = o2-is in
-        let c = room4 in
-        let l2 = long2 in
-        let l1 = wrote .same-length in
-        holds-both (frontWords fs d) (openIfAll ts ∷ length opts ∷ opts)
-        (holds-ext (wrote .row (omega arith))
-        (λ i lt. below4 i (omega arith) (λ z. omega arith) ∙ ap (λ (v : List ℕ). cell v i) e2 ∙ getD-set-other w1 o i opens 0 (λ z. omega arith)))
-        (holds-place a
-        (holds-cons
-        (below4 o (omega arith) (λ z. omega arith) ∙ ap (λ (v : List ℕ). cell v o) e2 ∙ getD-set-same w1 o opens 0 (omega arith) ∙ op .is (on .arena) known sets)
-        (holds-cons
-        (ap₂ (λ (v : List ℕ) (i : ℕ). cell v i) e4 (sym (ep ∙ omega arith)) ∙ getD-set-same w3 p k 0 (omega (arith, chose .same-length)) ∙ k-is)
-        (holds-place b
-        (holds-alike (chose .row (omega arith)) (λ i lo hi. ap (λ (v : List ℕ). cell v i) e4 ∙ getD-set-other w3 p i k 0 (λ z. omega arith)))))))
-
-    same-top : cell w4 (q .nodes) ≡ cell w (q .nodes)
-    same-top = below4 (q .nodes) (omega (arith, behind, o-is, o2-is)) (λ z. omega (arith, behind, o-is)) ∙ below2 (q .nodes) behind
+        written-both wrote o-is
+        (written-list (ap (λ (v : ℕ). backWords v keys) (op .is (on .arena) known sets)) (flags .is now known sets got top-under o-few))
 
     stored-merged : Stores (store (mergedNode ts fs d) st) w′ r
     stored-merged =
-        let a = o-is in
-        let b = o2-is in
         let few = len-few in
-        let few′ = opts-few in
-        let c = k-is in
+        let few′ = keys-few in
+        let c = flags .size now known sets got top-under o-few in
         let n = front .size got in
         let x = sl2 .is (omega arith) in
         let y = sl3 .is (omega arith) in
-        let size : l3 ≡ length (frontWords fs d ++ (openIfAll ts ∷ length opts ∷ opts)) =
-        omega (arith, length-append (frontWords fs d) (openIfAll ts ∷ length opts ∷ opts)) in
+        let long = length-append (frontWords fs d) (backWords (openIfAll ts) keys) in
         let u = got-few got in
         let v = got .count in
         let f = sf2 .is (omega arith) in
-        interned-set (record { fields = fs; dyn = d; isOpen = openIfAll ts; optional = opts })
-        (stands-below on
+        stored-row top row (omega arith) int .is {n = mergedNode ts fs d} on
         (record {
-          same-length = long4;
-          below = λ i lt. below4 i (omega (arith, top .is)) (λ z. omega (arith, top .is)) ∙ below2 i (omega (arith, top .is));
-          row = λ z. holds-none w4 (cell w (q .nodes));
-        }))
-        int (holds-place (top .is ∙ sym same-top) row) size (omega arith) (sc .is (omega arith) ∙ omega arith)
-        (under-both (q .nodes) (fieldTypes fs) (dynIds d) (got .types) (got .dyn-below))
+          cells = sym (sc .is (omega arith) ∙ omega arith);
+          few = omega arith;
+          below = under-both (q .nodes) (fieldTypes fs) (dynIds d) (got .types) (got .dyn-below);
+          short = omega arith;
+        })
+        refl
 
   pub stores-merged : StoresMerged w held q g m w′ r
   stores-merged = record { is = λ on taken sets got. stored-merged on taken sets got }

@@ -259,6 +259,12 @@ pub record OpenIfAll (w ms : List ℕ) (n r : ℕ) : Type 0 where
 abbrev pub frontWords : List Field → Option ℕ → List ℕ
 frontWords fs d = 4 ∷ length fs ∷ (fieldWords fs ++ dynWords d)
 
+-- the dyn after the d words that stand from t on; r is how many there are then
+pub record WritesDyn (w : List ℕ) (t d : ℕ) (g : Merging) (w′ : List ℕ) (r : ℕ) : Type 0 where
+  pub is : {held : List ℕ} {fs : List Field} {dyn : Option ℕ} {k : ℕ} {w₀ xs : List ℕ} → Got held g fs dyn k → Written t w₀ w xs → d ≡ length xs → d + 2 ≤ 4294967295
+      → Written t w₀ w′ (xs ++ dynWords dyn)
+  pub size : {held : List ℕ} {fs : List Field} {dyn : Option ℕ} {k : ℕ} → Got held g fs dyn k → d + 2 ≤ 4294967295 → r ≡ d + length (dynWords dyn)
+
 pub record WritesFields (w : List ℕ) (t : ℕ) (held : List ℕ) (g : Merging) (w′ : List ℕ) (r : ℕ) : Type 0 where
   pub is : {fs : List Field} {d : Option ℕ} {k : ℕ} → Got held g fs d k → t ≤ highest → Written t w w′ (frontWords fs d)
   pub size : {fs : List Field} {d : Option ℕ} {k : ℕ} → Got held g fs d k → r ≡ length (frontWords fs d)
@@ -276,6 +282,17 @@ pub record WritesOptional (w : List ℕ) (o : ℕ) (held : List ℕ) (g : Mergin
       → Got held g fs d k → cell w (q .nodes) ≤ o → Written o w w′ (optionalKeys (attrsOf ns xs) fs)
   pub size : {q : Pass} {ns : List rules.Node} {xs : List ℕ} {fs : List Field} {d : Option ℕ} {k : ℕ} → Arena w q ns → Taken m xs (length ns) → AllSets ns xs
       → Got held g fs d k → cell w (q .nodes) ≤ o → r ≡ length (optionalKeys (attrsOf ns xs) fs)
+
+-- the words of a set after its dyn
+abbrev pub backWords : ℕ → List ℕ → List ℕ
+backWords flag keys = flag ∷ length keys ∷ keys
+
+-- the flag, and the optional keys with their number; r is that number
+pub record WritesFlags (w : List ℕ) (o flag : ℕ) (held : List ℕ) (g : Merging) (m : Members) (w′ : List ℕ) (r : ℕ) : Type 0 where
+  pub is : {q : Pass} {ns : List rules.Node} {xs : List ℕ} {fs : List Field} {d : Option ℕ} {k : ℕ} → Arena w q ns → Taken m xs (length ns) → AllSets ns xs
+      → Got held g fs d k → cell w (q .nodes) ≤ o → o + 2 ≤ 4294967295 → Written o w w′ (backWords flag (optionalKeys (attrsOf ns xs) fs))
+  pub size : {q : Pass} {ns : List rules.Node} {xs : List ℕ} {fs : List Field} {d : Option ℕ} {k : ℕ} → Arena w q ns → Taken m xs (length ns) → AllSets ns xs
+      → Got held g fs d k → cell w (q .nodes) ≤ o → o + 2 ≤ 4294967295 → r ≡ length (optionalKeys (attrsOf ns xs) fs)
 
 -- what the sets ts come to, with these fields and this dyn
 abbrev pub mergedNode : List Attr → List Field → Option ℕ → rules.Node

@@ -21,7 +21,7 @@ use members::lists::with_last;
 ghost use mathlib.Core.Path.{_≡_};
 ghost use Rattle.cells.specs.Part.{part};
 ghost use Rattle.lang_ty.specs.Nodes.{Written};
-ghost use Rattle.merge.specs.Merges.{MergesSets, Meets, PutsField, HeldKey, HeldType, ComesNext, MergesField, oldTaken, newTaken, GoesOn, fieldsAt, MergesFields, dynAt, MergesDyn, OtherArea, MergesOne, MergesAll, allowed, setTest, Passes, AllPass, OpenIfAll, WritesFields, PutsIf, WritesOptional, StoresMerged, MergedLast};
+ghost use Rattle.merge.specs.Merges.{MergesSets, Meets, PutsField, HeldKey, HeldType, ComesNext, MergesField, oldTaken, newTaken, GoesOn, fieldsAt, MergesFields, dynAt, MergesDyn, OtherArea, MergesOne, MergesAll, allowed, setTest, Passes, AllPass, OpenIfAll, WritesDyn, WritesFields, PutsIf, WritesOptional, WritesFlags, StoresMerged, MergedLast};
 
 // What sets come to so far: fields held at a place, and a dyn or none.
 struct Merging {
@@ -357,6 +357,18 @@ fn write_held(words: &mut [u32], t: u32, held: &[u32], a: u32, n: u32)
     }
 }
 
+// The dyn of g written after the d words from t on; how many words there are then.
+fn write_dyn(words: &mut [u32], t: u32, d: u32, g: Merging) -> u32
+    ensures { λ r. ⌜ WritesDyn (now (words .entry)) t d g (now (words .exit)) r ⌝ }
+{
+    put(words, place(t, d), g.dyns);
+    if g.dyns == 0 {
+        return add(d, 1);
+    }
+    put(words, place(t, add(d, 1)), g.dyn_type);
+    add(d, 2)
+}
+
 // Kind, fields and dyn of a set written from t on; how many words that are.
 fn write_fields(words: &mut [u32], t: u32, held: &[u32], g: Merging) -> u32
     ensures { λ r. ⌜ WritesFields (now (words .entry)) t (now (held .entry)) g (now (words .exit)) r ⌝ }
@@ -365,13 +377,7 @@ fn write_fields(words: &mut [u32], t: u32, held: &[u32], g: Merging) -> u32
     set(words, t, OutputTy::ATTR_SET);
     put(words, place(t, 1), g.fields);
     write_held(words, add(t, 2), held, g.area, n);
-    let d = add(n, 2);
-    put(words, place(t, d), g.dyns);
-    if g.dyns == 0 {
-        return add(d, 1);
-    }
-    put(words, place(t, add(d, 1)), g.dyn_type);
-    add(d, 2)
+    write_dyn(words, t, add(n, 2), g)
 }
 
 // x written behind the k words from o on, if it is kept; how many there are then.
@@ -404,6 +410,16 @@ fn write_optional(arena: &mut [u32], o: u32, held: &[u32], g: Merging, sets: Mem
     k
 }
 
+// The open flag and the optional keys of a merged set written from o on; how many keys there are.
+fn write_flags(arena: &mut [u32], o: u32, flag: u32, held: &[u32], g: Merging, sets: Members) -> u32
+    ensures { λ r. ⌜ WritesFlags (now (arena .entry)) o flag (now (held .entry)) g sets (now (arena .exit)) r ⌝ }
+{
+    set(arena, o, flag);
+    let k = write_optional(arena, add(o, 2), held, g, sets);
+    put(arena, place(o, 1), k);
+    k
+}
+
 // The merged set, stored.
 fn store_merged(arena: &mut [u32], held: &[u32], q: Pass, g: Merging, sets: Members) -> Given
     ensures { λ r. ⌜ StoresMerged (now (arena .entry)) (now (held .entry)) q g sets (now (arena .exit)) r ⌝ }
@@ -412,10 +428,7 @@ fn store_merged(arena: &mut [u32], held: &[u32], q: Pass, g: Merging, sets: Memb
     let t = arena::top(arena, q);
     let open = open_if_all(arena, &s, sets.count);
     let len = write_fields(arena, t, held, g);
-    let o = add(t, len);
-    set(arena, o, open);
-    let k = write_optional(arena, add(o, 2), held, g, sets);
-    put(arena, place(o, 1), k);
+    let k = write_flags(arena, add(t, len), open, held, g, sets);
     arena::intern(
         arena,
         q,

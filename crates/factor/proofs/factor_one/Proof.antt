@@ -1,3 +1,4 @@
+-- Beside no cells all members of the union are picked, so that it is stored as it is, or its one member is taken.
 use Rattle.factor.proofs.Factors.{one-on, one-refused}
 use borrow.Author.Needs.{needs}
 use Rattle.factor.proofs.factor_one.Statement.{statement}

@@ -1,3 +1,4 @@
+-- The rules' steps in their order: the shared members sorted, the mark, the parts joined; a refusal of the rests stays one.
 use Rattle.factor.proofs.Factors.{rests-on, rests-refused}
 use borrow.Author.Needs.{needs}
 use Rattle.factor.proofs.factor_rests.Statement.{statement}

@@ -1,3 +1,4 @@
+-- Each way out is a case of the rules by the number of unions: none, one, or more.
 use Rattle.factor.proofs.Factors.{runs-none, runs-one, runs-more}
 use borrow.Author.Needs.{needs}
 use Rattle.factor.proofs.factor_shared_from_intersection.Statement.{statement}

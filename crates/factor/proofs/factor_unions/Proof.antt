@@ -1,3 +1,4 @@
+-- The members shared by all are those of the first union that every other one has; with none of them the rules leave all as it is.
 use Rattle.factor.proofs.Factors.{unions-none, unions-some}
 use borrow.Author.Needs.{needs}
 use Rattle.factor.proofs.factor_unions.Statement.{statement}

@@ -1,3 +1,4 @@
+-- An intersection of the parts and then a union with the shared members, each by `sole` as in the rules; a refusal of the first stays one.
 use Rattle.factor.proofs.Factors.{parts-on, parts-refused}
 use borrow.Author.Needs.{needs}
 use Rattle.factor.proofs.factored.Statement.{statement}

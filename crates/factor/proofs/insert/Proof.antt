@@ -1,3 +1,4 @@
+-- The rules' insert puts x before the first that is greater, and that is the place that was found.
 use Rattle.factor.proofs.Factors.{inserts-is}
 use borrow.Author.Needs.{needs}
 use Rattle.factor.proofs.insert.Statement.{statement}

@@ -1,3 +1,4 @@
+-- The rules' mark is set already, or set where 1 is less than n.
 use Rattle.factor.proofs.Factors.{marked-few, marked-more}
 use Rattle.factor.proofs.mark_sorted.Statement.{statement}
 use Rattle.factor.proofs.mark_sorted.Tie as tie

@@ -1,3 +1,4 @@
+-- What is picked is the union without the list, and `sole` of it is what the rules add.
 use Rattle.factor.proofs.Factors.{remains-is}
 use borrow.Author.Needs.{needs}
 use Rattle.factor.proofs.remainder.Statement.{statement}

@@ -1,3 +1,4 @@
+-- Storing more members than may be is 7 in the rules; otherwise it is `sole`.
 use Rattle.factor.proofs.Factors.{any-many, any-few}
 use borrow.Author.Needs.{needs}
 use Rattle.factor.proofs.sole_of_any.Statement.{statement}

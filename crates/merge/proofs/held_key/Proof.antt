@@ -1,3 +1,4 @@
+-- Field i is the words 2 i and 2 i + 1 of those of all fields, and the first of the two is its key.
 use Rattle.merge.proofs.MergeFields.{held-key-is}
 use borrow.Author.Needs.{needs}
 use Rattle.merge.proofs.held_key.Statement.{statement}

@@ -1,3 +1,4 @@
+-- Each way out is a case of the rules' meetTypes: the same type twice, an earlier TyVar, or an intersection that is stored.
 use Rattle.merge.proofs.MergeFields.{meets-same, meets-var, meets-both}
 use borrow.Author.Needs.{needs}
 use Rattle.merge.proofs.meet_types.Statement.{statement}

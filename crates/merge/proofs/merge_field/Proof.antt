@@ -1,3 +1,4 @@
+-- Each way out is a case of which field comes next; where both do, their types are met first.
 use Rattle.merge.proofs.MergeFields.{merges-old, merges-new, merges-both, merges-refused}
 use borrow.Author.Needs.{needs}
 use Rattle.merge.proofs.merge_field.Statement.{statement}

@@ -1,27 +1,27 @@
 -- What was merged, with what the rules' merge makes of the fields that are left, is all of it; i and j only grow.
-use mathlib.Core.Path.{_≡_, _∙_}
 use borrow.Author.Needs.{needs}
-use Rattle.merge.proofs.MergeFields.{Sweeping, sweeping-start, sweeping-more, sweeping-refused, sweeping-done}
-use native.Mathlib.Omega.{arith}
-use Prim.Native.Nat.{_-_, _≤_}
-use lib.ListN.{length}
+use Rattle.merge.proofs.MergeFields.{Sweeping, sweeping-start, sweeping-fits, sweeping-less, sweeping-more, sweeping-refused, sweeping-done}
+use Prim.Native.Nat.{_-_}
 use Rattle.merge.proofs.merge_fields.Statement.{statement}
 use Rattle.merge.proofs.merge_fields.Tie as tie
 
 abbrev Inv-loop : tie.InvT-loop
-Inv-loop arena₀ held₀ g x b a n m most q₀ i₀ j₀ k₀ arena held q i j k = Sweeping arena₀ held₀ q₀ g x b arena held q i j k × (k ≤ most) × (most ≤ 4294967295) × (length arena ≡ length arena₀) × (length held ≡ length held₀)
+Inv-loop arena₀ held₀ g x b a n m most q₀ i₀ j₀ k₀ arena held q i j k = Sweeping arena₀ held₀ q₀ g x b m most arena held q i j k
 
 abbrev μ-loop : tie.MeasureT-loop
 μ-loop arena₀ held₀ g x b a n m most q₀ i₀ j₀ k₀ arena held q i j k = most - k
 
-add-k : tie.Need-add-k Inv-loop μ-loop
-add-k c = omega (arith, (c .before .before .before .before .before .before .before .before .before .before .before .before .before .before .before .before .before .before .before .before .goes-on .ensures .some (c .before .before .before .before .before .before .before .before .before .before .before .before .before .before .before .before .before .before .before .if1 .taken)) .0, c .before .before .before .before .before .before .before .before .before .before .before .before .before .before .before .before .before .before .before .before .before .loop .inv .2)
-
-loop-less : tie.Need-loop-less Inv-loop μ-loop
-loop-less c = omega (arith, (c .before .before .before .before .before .before .before .before .before .before .before .before .before .before .before .before .before .before .before .before .goes-on .ensures .some (c .before .before .before .before .before .before .before .before .before .before .before .before .before .before .before .before .before .before .before .if1 .taken)) .0)
-
 loop-again : tie.Need-loop-again Inv-loop μ-loop
-loop-again c = (sweeping-more (c .before .before .before .before .before .before .before .before .before .before .before .before .before .before .before .before .before .before .before .before .before .loop .inv .0) (c .before .before .before .before .before .before .before .before .before .before .before .before .before .before .before .before .before .before .before .before .before .before .before .before .set-place .ensures) (c .before .before .before .before .before .before .before .before .before .before .before .before .before .before .before .before .before .before .before .before .before .before .before .fields .ensures) (c .before .before .before .before .before .before .before .before .before .before .before .before .before .before .before .before .before .before .before .before .goes-on .ensures) (c .before .before .before .before .before .before .before .before .before .before .before .before .before .before .before .before .before .before .before .if1 .taken) (c .before .before .before .before .before .before .before .before .before .before .before .before .before .before .before .before .before .set-place2 .ensures) (c .before .before .before .before .before .before .before .before .before .before .before .before .before .before .next-field .ensures) (c .before .before .before .before .before .before .before .before .before .before .before .merge-field .ensures) (c .before .before .before .before .before .r .given .1) (c .before .before .before .takes-old .ensures) (c .before .before .add2 .ensures) (c .before .takes-new .ensures) (c .add3 .ensures) (c .before .before .before .before .before .before .before .before .before .before .before .merge-field .kept .1 .0), omega (arith, (c .before .before .before .before .before .before .before .before .before .before .before .before .before .before .before .before .before .before .before .before .goes-on .ensures .some (c .before .before .before .before .before .before .before .before .before .before .before .before .before .before .before .before .before .before .before .if1 .taken)) .0), c .before .before .before .before .before .before .before .before .before .before .before .before .before .before .before .before .before .before .before .before .before .loop .inv .2, c .before .before .before .before .before .before .before .before .before .before .before .merge-field .kept .0 ∙ c .before .before .before .before .before .before .before .before .before .before .before .before .before .before .before .before .before .before .before .before .before .loop .inv .3, c .before .before .before .before .before .before .before .before .before .before .before .merge-field .kept .1 .0 ∙ c .before .before .before .before .before .before .before .before .before .before .before .before .before .before .before .before .before .before .before .before .before .loop .inv .4)
+loop-again c =
+    let taken = c .before .before .before in
+    let merged = taken .before .before .before .before .before .before .before .before in
+    let next = merged .before .before .before in
+    let place = next .before .before .before in
+    let test = place .before .before in
+    let on = test .before in
+    sweeping-more (on .before .loop .inv) (on .goes-on .ensures) (test .if1 .taken) (place .set-place2 .ensures) (next .next-field .ensures) (merged .merge-field .ensures)
+    (taken .before .before .r .given .1) (taken .takes-old .ensures) (c .before .before .add2 .ensures) (c .before .takes-new .ensures) (c .add3 .ensures)
+    (merged .merge-field .kept .0) (merged .merge-field .kept .1 .0)
 
 pub merge-fields-spec : {M : Type 1} → statement M
 merge-fields-spec =
@@ -32,7 +32,7 @@ merge-fields-spec =
     (λ c _. search needs)
     (λ c _. search needs)
     (λ c _. search needs)
-    (λ c. (sweeping-start, search needs, search needs, search needs, search needs))
+    (λ c. search sweeping-start)
     (λ c _. search needs)
     (λ c _. search needs)
     (λ c _. search needs)
@@ -42,8 +42,8 @@ merge-fields-spec =
     (λ c _. search needs)
     (λ c _. search needs)
     (λ c _. search needs)
-    add-k
-    loop-less
+    (λ c. search sweeping-fits)
+    (λ c. search sweeping-less)
     loop-again
     (λ c. search needs)
     (λ c. search needs)

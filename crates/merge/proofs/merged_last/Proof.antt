@@ -1,10 +1,8 @@
+-- A refusal stays one; otherwise the sets are still nodes as they were, so that the rules' node is what is stored.
 use Rattle.merge.proofs.MergeStore.{last-merged, last-refused}
 use borrow.Author.Needs.{needs}
 use Rattle.merge.proofs.merged_last.Statement.{statement}
 use Rattle.merge.proofs.merged_last.Tie as tie
-
-returns : tie.Need-returns
-returns c = last-merged (c .before .before .before .before .before .before .d .given .1) (c .before .before .before .store-merged .ensures) (c .with-last .ensures)
 
 pub merged-last-spec : {M : Type 1} → statement M
 merged-last-spec =
@@ -16,5 +14,5 @@ merged-last-spec =
     (λ c. search needs)
     (λ c _. search needs)
     (λ c. search needs)
-    returns
-    (λ c. last-refused (c .before .before .d2 .given .1) (c .refused .ensures)))
+    (λ c. search last-merged)
+    (λ c. search last-refused))

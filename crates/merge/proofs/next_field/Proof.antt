@@ -1,3 +1,4 @@
+-- Where one list is at its end the other's field comes next; otherwise the smaller key does, or both where the keys are equal.
 use Rattle.merge.proofs.MergeFields.{next-rest, next-last, next-new, next-old, next-both}
 use borrow.Author.Needs.{needs}
 use Rattle.merge.proofs.next_field.Statement.{statement}

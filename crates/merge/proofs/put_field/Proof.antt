@@ -1,3 +1,4 @@
+-- Both sums fit for a field below the most names, and neither write is before the area.
 use Rattle.merge.proofs.MergeFields.{puts-field}
 use borrow.Author.Needs.{needs}
 use Rattle.merge.proofs.put_field.Statement.{statement}
