@@ -179,8 +179,8 @@ module _ {w : List ℕ} {to id sign k x n : ℕ} {f : Bool} (hk : At w 0 to 0 k)
         pub count-many : not q ≡ true → Count w to id sign No
         count-many eq = counted No (sym (simp (not-false f ef, eq-eqb k 1 e, ne-eqb k 2 (omega arith), sym (hp .is), not-false p ep, sym (hq .is), not-true q eq)))
 
-        pub count-shown : not q ≡ false → Count w to id sign (Is n)
-        count-shown eq = counted (Is n) (sym (simp (not-false f ef, eq-eqb k 1 e, sym (hp .is), not-false p ep, sym (hq .is), not-false q eq)))
+        pub count-shown : {r : Num} → not q ≡ false → r ≡ Is n → Count w to id sign r
+        count-shown {r} eq z = counted r (ap numOf z ∙ sym (simp (not-false f ef, eq-eqb k 1 e, sym (hp .is), not-false p ep, sym (hq .is), not-false q eq)))
 
     module _ (e : k ≡ 2) {p : Bool} (hp : Within 6 9 x p) where
       pub count-refused : p ≡ true → Count w to id sign (Is 0)

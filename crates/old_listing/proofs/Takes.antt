@@ -147,13 +147,16 @@ then-if true d k f = refl
 then-if false d k f = refl
 
 -- one node more
-walk-turn : (s : List ℕ) (from k names n at line i a : ℕ) → Walking s from k names n at line i → i < n → a ≤ from → then (takeNode names i (takingAt s a at line)) (λ (d : Taking). takeNodes names (i + 1) (n - (i + 1)) d) ≡ takeNodes names 0 n (takingAt s a from k)
+walk-turn : (s : List ℕ) (from k names n at line i a : ℕ) → Walking s from k names n at line i → i < n → a ≤ from
+    → then (takeNode names i (takingAt s a at line)) (λ (d : Taking). takeNodes names (i + 1) (n - (i + 1)) d) ≡ takeNodes names 0 n (takingAt s a from k)
 walk-turn s from k names n at line i a inv l h =
     ap (λ (j : ℕ). then (takeNode names i (takingAt s a at line)) (λ (d : Taking). takeNodes names j (n - (i + 1)) d)) (add-one i)
     ∙ ap (λ (m : ℕ). takeNodes names i m (takingAt s a at line)) (let z : suc (n - (i + 1)) ≡ n - i = omega arith in z)
     ∙ inv .is a h
 
-turn-so : (s : List ℕ) (from k names n at line i e a : ℕ) (b t : Bool) → Walking s from k names n at line i → i < n → Seek s at (length s) 10 e → e < length s → NodeLine s at e names i b → b ≡ t → a ≤ from → if t (λ _. takeNodes names (i + 1) (n - (i + 1)) (takingAt s a (e + 1) (line + 1))) (λ _. refused 11 line) ≡ takeNodes names 0 n (takingAt s a from k)
+turn-so : (s : List ℕ) (from k names n at line i e a : ℕ) (b t : Bool) → Walking s from k names n at line i → i < n → Seek s at (length s) 10 e → e < length s
+    → NodeLine s at e names i b → b ≡ t → a ≤ from
+    → if t (λ _. takeNodes names (i + 1) (n - (i + 1)) (takingAt s a (e + 1) (line + 1))) (λ _. refused 11 line) ≡ takeNodes names 0 n (takingAt s a from k)
 turn-so s from k names n at line i e a b t inv lt y l q f h =
     sym (then-if t (takingAt s a (e + 1) (line + 1)) line (λ (d : Taking). takeNodes names (i + 1) (n - (i + 1)) d))
     ∙ ap (λ (o : Result Taking). then o (λ (d : Taking). takeNodes names (i + 1) (n - (i + 1)) d)) (sym node)
@@ -274,10 +277,17 @@ then-more : (m : Result (List (List ℕ))) (x : List ℕ) (got : List (List ℕ)
 then-more (accepted ts) x got = ap (λ (l : List (List ℕ)). accepted l) (sym (append-assoc got (x ∷ []) ts))
 then-more (refused k l) x got = refl
 
--- the roots from i on, behind the texts of those before
+-- a root that was taken, and those after it
+abbrev withRest : ℕ → List Root → Result Taking → Result (List (List ℕ))
+withRest names rs o = then o (λ (d : Taking). then (takeRoots names rs d) (λ (ts : List (List ℕ)). accepted (d .text ∷ ts)))
+
+-- the texts of the roots before i, and those that m says
+abbrev joined : List ℕ → List ℕ → ℕ → ℕ → Result (List (List ℕ)) → Result (List (List ℕ))
+joined s spans at i m = then m (λ (ts : List (List ℕ)). accepted (run (rootSpan s (set spans i at)) 0 i ++ ts))
+
+-- the roots from i on, after the texts of those before
 abbrev rootsFrom : List ℕ → ℕ → List Root → List ℕ → ℕ → ℕ → ℕ → Result (List (List ℕ))
-rootsFrom s names rs spans at line i =
-    then (takeRoots names (drop i rs) (takingAt s at at line)) (λ (ts : List (List ℕ)). accepted (run (rootSpan s (set spans i at)) 0 i ++ ts))
+rootsFrom s names rs spans at line i = joined s spans at i (takeRoots names (drop i rs) (takingAt s at at line))
 
 pub record Rooting (s : List ℕ) (from names : ℕ) (table : List ℕ) (first n : ℕ) (spans₀ spans : List ℕ) (at line i : ℕ) : Type 0 where
   pub few : i ≤ n
@@ -334,25 +344,26 @@ got-more s spans at q i h =
     here : rootSpan s (set (set spans i at) (i + 1) q) (0 + i) ≡ span s at q
     here = ap₂ {C = List ℕ} (span s) first second
 
--- root i, and those behind it
-step-so : (s : List ℕ) (names at line i : ℕ) (spans : List ℕ) (rs : List Root) (r : Reached) → i < length rs → nextOf s at r ≡ takeRoot names (getD rs i (asked 0 0)) (takingAt s at at line) → then (then (nextOf s at r) (λ (d : Taking). then (takeRoots names (drop (i + 1) rs) d) (λ (ts : List (List ℕ)). accepted (d .text ∷ ts)))) (λ (ts : List (List ℕ)). accepted (run (rootSpan s (set spans i at)) 0 i ++ ts)) ≡ rootsFrom s names rs spans at line i
+-- root i, and those after it
+step-so : (s : List ℕ) (names at line i : ℕ) (spans : List ℕ) (rs : List Root) (r : Reached) → i < length rs
+    → nextOf s at r ≡ takeRoot names (getD rs i (asked 0 0)) (takingAt s at at line)
+    → joined s spans at i (withRest names (drop (i + 1) rs) (nextOf s at r)) ≡ rootsFrom s names rs spans at line i
 step-so s names at line i spans rs r l e =
-    ap (λ (o : Result Taking). outer (then o (λ (d : Taking). then (takeRoots names (drop (i + 1) rs) d) (λ (ts : List (List ℕ)). accepted (d .text ∷ ts)))))
+    ap (λ (o : Result Taking). joined s spans at i (withRest names (drop (i + 1) rs) o))
     (e ∙ ap (λ (x : List ℕ). takeRoot names (getD rs i (asked 0 0)) (record { text = x; line = line; rest = pieces lineFeed (span s at (length s)) })) (span-none s at at (omega arith)))
-    ∙ ap (λ (j : ℕ). outer (takeRoots names (getD rs i (asked 0 0) ∷ drop j rs) (takingAt s at at line))) (add-one i)
-    ∙ ap (λ (l : List Root). outer (takeRoots names l (takingAt s at at line))) (sym (drop-cons rs i (asked 0 0) l))
-  where
-    outer : Result (List (List ℕ)) → Result (List (List ℕ))
-    outer m = then m (λ (ts : List (List ℕ)). accepted (run (rootSpan s (set spans i at)) 0 i ++ ts))
+    ∙ ap (λ (j : ℕ). joined s spans at i (takeRoots names (getD rs i (asked 0 0) ∷ drop j rs) (takingAt s at at line))) (add-one i)
+    ∙ ap (λ (l : List Root). joined s spans at i (takeRoots names l (takingAt s at at line))) (sym (drop-cons rs i (asked 0 0) l))
 
-module _ {s table spans₀ spans spans₁ : List ℕ} {from names first n at line i id sign : ℕ} {r : Reached} (inv : Rooting s from names table first n spans₀ spans at line i) (lt : i < n) (st : spans₁ ≡ set spans i at) (a : RootWord table first i 1 id) (b : RootWord table first i 2 sign) (h : TakesRoot s at line names id sign r) where
+module _ {s table spans₀ spans spans₁ : List ℕ} {from names first n at line i id sign : ℕ} {r : Reached} (inv : Rooting s from names table first n spans₀ spans at line i)
+    (lt : i < n) (st : spans₁ ≡ set spans i at) (a : RootWord table first i 1 id) (b : RootWord table first i 2 sign) (h : TakesRoot s at line names id sign r) where
   root-here : (rs : List Root) → RootsAt rs table first n → nextOf s at r ≡ takeRoot names (getD rs i (asked 0 0)) (takingAt s at at line)
   root-here rs g =
       h .is ∙ ap (λ (root : Root). takeRoot names root (takingAt s at at line)) (ap₂ {C = Root} asked (a .is) (b .is) ∙ g .is i lt)
 
-  step-here : (rs : List Root) → RootsAt rs table first n → n < length spans₀ → (z : Reached) → r ≡ z → then (then (nextOf s at z) (λ (d : Taking). then (takeRoots names (drop (i + 1) rs) d) (λ (ts : List (List ℕ)). accepted (d .text ∷ ts)))) (λ (ts : List (List ℕ)). accepted (run (rootSpan s (set spans i at)) 0 i ++ ts)) ≡ takeRoots names rs (takingAt s 0 from 2)
+  step-here : (rs : List Root) → RootsAt rs table first n → n < length spans₀ → (z : Reached) → r ≡ z
+      → joined s spans at i (withRest names (drop (i + 1) rs) (nextOf s at z)) ≡ takeRoots names rs (takingAt s 0 from 2)
   step-here rs g l z e =
-      ap (λ (y : Reached). then (then (nextOf s at y) (λ (d : Taking). then (takeRoots names (drop (i + 1) rs) d) (λ (ts : List (List ℕ)). accepted (d .text ∷ ts)))) (λ (ts : List (List ℕ)). accepted (run (rootSpan s (set spans i at)) 0 i ++ ts))) (sym e)
+      ap (λ (y : Reached). joined s spans at i (withRest names (drop (i + 1) rs) (nextOf s at y))) (sym e)
       ∙ step-so s names at line i spans rs r (let c = g .count in omega arith) (root-here rs g)
       ∙ inv .is rs g l
 
@@ -382,36 +393,39 @@ module _ {s table spans₀ spans spans₁ : List ℕ} {from names first n at lin
             ∙ step-here rs g l (AtV q k) e;
       }
 
--- behind the last root
-last-so : (s table spans₀ spans : List ℕ) (from names first n at line i : ℕ) (rs : List Root) (o : Result (List (List ℕ))) → Rooting s from names table first n spans₀ spans at line i → n ≤ i → RootsAt rs table first n → n < length spans₀ → atEnd line (pieces lineFeed (span s at (length s))) ≡ o → then o (λ (ts : List (List ℕ)). accepted (run (rootSpan s (set spans n at)) 0 n ++ ts)) ≡ takeRoots names rs (takingAt s 0 from 2)
-last-so s table spans₀ spans from names first n at line i rs o inv h g l e =
-    ap₂ {C = Result (List (List ℕ))} (λ (m : Result (List (List ℕ))) (j : ℕ). then m (λ (ts : List (List ℕ)). accepted (run (rootSpan s (set spans j at)) 0 j ++ ts)))
-    (sym e ∙ ap (λ (q : List Root). takeRoots names q (takingAt s at at line)) (sym (drop-of-length-le rs {i = i} (let c = g .count in omega arith))))
-    (let z : n ≡ i = omega (arith, inv .few) in z)
-    ∙ inv .is rs g l
+-- after the last root
+module _ {s table spans₀ spans : List ℕ} {from names first n at line i : ℕ} (inv : Rooting s from names table first n spans₀ spans at line i) (h : n ≤ i) where
+  last-so : (rs : List Root) (o : Result (List (List ℕ))) → RootsAt rs table first n → n < length spans₀
+      → atEnd line (pieces lineFeed (span s at (length s))) ≡ o → joined s spans at n o ≡ takeRoots names rs (takingAt s 0 from 2)
+  last-so rs o g l e =
+      ap₂ {C = Result (List (List ℕ))} (λ (m : Result (List (List ℕ))) (j : ℕ). joined s spans at j m)
+      (sym e ∙ ap (λ (q : List Root). takeRoots names q (takingAt s at at line)) (sym (drop-of-length-le rs {i = i} (let c = g .count in omega arith))))
+      (let z : n ≡ i = omega (arith, inv .few) in z)
+      ∙ inv .is rs g l
 
-module _ {s table spans₀ spans spans₁ : List ℕ} {from names first n at line i : ℕ} (inv : Rooting s from names table first n spans₀ spans at line i) (h : n ≤ i) (st : spans₁ ≡ set spans n at) where
-  untouched : (k : ℕ) → n < k → cell spans₁ k ≡ cell spans₀ k
-  untouched k lt = ap (λ (w : List ℕ). cell w k) st ∙ set-others spans₀ spans n at n (omega arith) (inv .others) k lt
+  module _ {spans₁ : List ℕ} (st : spans₁ ≡ set spans n at) where
+    untouched : (k : ℕ) → n < k → cell spans₁ k ≡ cell spans₀ k
+    untouched k lt = ap (λ (w : List ℕ). cell w k) st ∙ set-others spans₀ spans n at n (omega arith) (inv .others) k lt
 
-  pub rooting-surplus : at < length s → Roots s from names table first n spans₀ spans₁ (Refused line)
-  rooting-surplus l = record {
-    is = λ rs g m. last-so s table spans₀ spans from names first n at line i rs (refused 11 line) inv h g m (end-surplus s at line l);
-    lies = λ m. tt;
-    kept = untouched;
-  }
+    pub rooting-surplus : at < length s → Roots s from names table first n spans₀ spans₁ (Refused line)
+    rooting-surplus l = record {
+      is = λ rs g m. last-so rs (refused 11 line) g m (end-surplus s at line l);
+      lies = λ m. tt;
+      kept = untouched;
+    }
 
-  pub rooting-done : length s ≤ at → Roots s from names table first n spans₀ spans₁ InForm
-  rooting-done l = record {
-    is = λ rs g m.
-        ap (λ (q : List (List ℕ)). accepted q) (ap (λ (w : List ℕ). run (rootSpan s w) 0 n) st ∙ sym (append-nil (run (rootSpan s (set spans n at)) 0 n)))
-        ∙ last-so s table spans₀ spans from names first n at line i rs (accepted []) inv h g m (end-here s at line l);
-    lies = λ m k le.
-        omega (arith, ap (λ (w : List ℕ). cell w k) st, set-lies spans n at (length s) (omega (arith, inv .kept)) (inv .high) (λ j lt. inv .lies m j (omega arith)) k le);
-    kept = untouched;
-  }
+    pub rooting-done : length s ≤ at → Roots s from names table first n spans₀ spans₁ InForm
+    rooting-done l = record {
+      is = λ rs g m.
+          ap (λ (q : List (List ℕ)). accepted q) (ap (λ (w : List ℕ). run (rootSpan s w) 0 n) st ∙ sym (append-nil (run (rootSpan s (set spans n at)) 0 n)))
+          ∙ last-so rs (accepted []) g m (end-here s at line l);
+      lies = λ m k le.
+          omega (arith, ap (λ (w : List ℕ). cell w k) st, set-lies spans n at (length s) (omega (arith, inv .kept)) (inv .high) (λ j lt. inv .lies m j (omega arith)) k le);
+      kept = untouched;
+    }
 
-pub rooting-ready : {s w w′ table spans₀ spans : List ℕ} {from names first n at line i : ℕ} → Ready s from 2 w → length w′ ≡ length w → Rooting s from names table first n spans₀ spans at line i → Ready s at line w′
+pub rooting-ready : {s w w′ table spans₀ spans : List ℕ} {from names first n at line i : ℕ} → Ready s from 2 w → length w′ ≡ length w
+    → Rooting s from names table first n spans₀ spans at line i → Ready s at line w′
 rooting-ready g l inv = record { within = inv .high; short = g .short; early = inv .early; room = omega (arith, g .room) }
 
 -- the whole listing
@@ -436,7 +450,8 @@ module _ {s table spans w : List ℕ} {names first n : ℕ} where
   pub old-poor : length w < lineLength → Read s names table first n spans w spans (Refused 0)
   old-poor h = record { is = λ rs g l m. absurd (let z : ⊥ = omega arith in z); lies = λ l. tt; kept = λ k lt. refl }
 
-first-so : (s : List ℕ) (names n e : ℕ) (rs : List Root) (b t : Bool) → length s ≤ mostText → Seek s 0 (length s) 10 e → e < length s → IsAnswers s 0 e n b → b ≡ t → length rs ≡ n → if t (λ _. takeRoots names rs (takingAt s 0 (e + 1) 2)) (λ _. refused 11 1) ≡ oldListing names rs s
+first-so : (s : List ℕ) (names n e : ℕ) (rs : List Root) (b t : Bool) → length s ≤ mostText → Seek s 0 (length s) 10 e → e < length s → IsAnswers s 0 e n b
+    → b ≡ t → length rs ≡ n → if t (λ _. takeRoots names rs (takingAt s 0 (e + 1) 2)) (λ _. refused 11 1) ≡ oldListing names rs s
 first-so s names n e rs b t h y l a f c =
     ap₂ {C = Result (List (List ℕ))} (λ (u : Bool) (o : Result (List (List ℕ))). if u (λ _. o) (λ _. refused 11 1))
     (sym f ∙ a .is ∙ ap (λ (m : ℕ). isAnswers m (rowOf headKinds (span s 0 e))) (sym c))

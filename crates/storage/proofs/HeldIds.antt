@@ -171,17 +171,19 @@ module _ {table : List ℕ} {a n i r : ℕ} where
       }
 
 -- `hold_fields` at child i
-pub record Fielding (table : List ℕ) (a : ℕ) (work₀ : List ℕ) (h n : ℕ) (work : List ℕ) (i : ℕ) : Type 0 where
+pub record Fielding (table : List ℕ) (a : ℕ) (work₀ : List ℕ) (h f n : ℕ) (work : List ℕ) (i : ℕ) : Type 0 where
   pub few : i ≤ n
+  pub fields : Fields table a f
   pub kept : (j : ℕ) → j < h → cell work j ≡ cell work₀ j
   pub size : {t : Attr} → SetAt table a t → n ≡ length (attrKids t)
   pub is : {t : Attr} → SetAt table a t → h + length (attrKids t) ≤ length work₀ → HeldList work h i (take i (attrKids t))
 
-module _ {table : List ℕ} {a : ℕ} {work₀ : List ℕ} {h n : ℕ} where
-  pub fielding-start : {f d : ℕ} → Fields table a f → Dyns table a d → Sum f d n → Fielding table a work₀ h n work₀ 0
-  fielding-start {f} {d} fs ds sum =
+module _ {table : List ℕ} {a : ℕ} {work₀ : List ℕ} {h f n : ℕ} where
+  pub fielding-start : {d : ℕ} → Fields table a f → Dyns table a d → Sum f d n → Fielding table a work₀ h f n work₀ 0
+  fielding-start {d} fs ds sum =
       record {
         few = omega arith;
+        fields = fs;
         kept = λ j lt. refl;
         size = λ {t} s.
             let x = fs .is s in
@@ -192,17 +194,18 @@ module _ {table : List ℕ} {a : ℕ} {work₀ : List ℕ} {h n : ℕ} where
         is = λ s room. held-none work₀ h;
       }
 
-  pub fielding-more : {f p x i : ℕ} {work work′ : List ℕ} → Fielding table a work₀ h n work i → length work ≡ length work₀ → i < n → Fields table a f → p ≡ h + i
-      → SetChild table a f i x → work′ ≡ set work p x → Fielding table a work₀ h n work′ (i + 1)
-  fielding-more {f} {p} {x} {i} {work} {work′} g same lt fs e child put =
+  pub fielding-more : {p x i : ℕ} {work work′ : List ℕ} → work′ ≡ set work p x → p ≡ h + i → SetChild table a f i x
+      → Fielding table a work₀ h f n work i → i < n → length work ≡ length work₀ → Fielding table a work₀ h f n work′ (i + 1)
+  fielding-more {p} {x} {i} {work} {work′} put e child g lt same =
       let z : work′ ≡ set work (h + i) x = put ∙ ap (λ (j : ℕ). set work j x) e in
       record {
         few = omega arith;
+        fields = g .fields;
         kept = λ j less. ap (λ (l : List ℕ). cell l j) z ∙ getD-set-other work (h + i) j x 0 (omega arith) ∙ g .kept j less;
         size = λ s. g .size s;
         is = λ {t} s room.
             let size = g .size s in
-            let y : x ≡ getD (attrKids t) i 0 = child .is s (fs .is s) (omega arith) in
+            let y : x ≡ getD (attrKids t) i 0 = child .is s (g .fields .is s) (omega arith) in
             let few = length-take-le i (attrKids t) (omega arith) in
             held-slice z
             (held-list
@@ -210,7 +213,7 @@ module _ {table : List ℕ} {a : ℕ} {work₀ : List ℕ} {h n : ℕ} where
             (held-put x (g .is s room) (omega arith)));
       }
 
-  pub fielding-done : {i : ℕ} {work : List ℕ} → Fielding table a work₀ h n work i → n ≤ i → HoldsFields table a work₀ h work n
+  pub fielding-done : {i : ℕ} {work : List ℕ} → Fielding table a work₀ h f n work i → n ≤ i → HoldsFields table a work₀ h work n
   fielding-done {i} g le =
       record {
         kept = g .kept;

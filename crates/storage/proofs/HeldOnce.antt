@@ -108,6 +108,7 @@ pub record FirstsAt (work₀ : List ℕ) (h count : ℕ) (bs work : List ℕ) (k
 
 pub record Firsting (work₀ : List ℕ) (h n : ℕ) (work : List ℕ) (k i : ℕ) : Type 0 where
   pub few : i ≤ n
+  pub small : n ≤ 4294967295
   pub is : {bs : List ℕ} {count : ℕ} → HeldList work₀ h n bs → Under count bs → Unseen work₀ count → heldAt ≤ h → h + length bs ≤ length work₀
       → FirstsAt work₀ h count bs work k i
 
@@ -116,10 +117,11 @@ new-only got x true = append-nil got
 new-only got x false = refl
 
 module _ {work₀ : List ℕ} {h n : ℕ} where
-  pub firsting-start : Firsting work₀ h n work₀ 0 0
-  firsting-start =
+  pub firsting-start : n ≤ 4294967295 → Firsting work₀ h n work₀ 0 0
+  firsting-start small =
       record {
         few = omega arith;
+        small = small;
         is = λ g under unseen high room.
             record {
               got = [];
@@ -132,8 +134,8 @@ module _ {work₀ : List ℕ} {h n : ℕ} where
             };
       }
 
-  module _ {work work′ : List ℕ} {k k′ i p b : ℕ} (f : Firsting work₀ h n work k i) (same : length work ≡ length work₀) (lt : i < n) (small : n ≤ 4294967295) (e : p ≡ h + i)
-      (get : b ≡ cell work p) (put : HoldsFirst work h k b work′ k′) where
+  module _ {work work′ : List ℕ} {k k′ i p b : ℕ} (put : HoldsFirst work h k b work′ k′) (f : Firsting work₀ h n work k i) (get : b ≡ cell work p) (e : p ≡ h + i) (lt : i < n)
+      (same : length work ≡ length work₀) where
     abbrev marked : List ℕ
     marked = set work (seenAt + b) 1
 
@@ -198,7 +200,7 @@ module _ {work₀ : List ℕ} {h n : ℕ} where
           }
 
     pub firsting-more : Firsting work₀ h n work′ k′ (i + 1)
-    firsting-more = record { few = omega arith; is = λ g under unseen high room. now g under unseen high room }
+    firsting-more = record { few = omega arith; small = f .small; is = λ g under unseen high room. now g under unseen high room }
 
   pub firsting-done : {work : List ℕ} {k i : ℕ} → Firsting work₀ h n work k i → n ≤ i → FirstOfEach work₀ h n work k
   firsting-done {work} {k} {i} f le =

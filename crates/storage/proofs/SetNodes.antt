@@ -23,10 +23,15 @@ use Rattle.lang_ty.specs.declared.arena.Pass.{Pass}
 use Rattle.lang_ty.specs.declared.arena.Given.{Given}
 use Rattle.lang_ty.specs.Nodes.{highest, Interned, Top, Written}
 use Rattle.lang_ty.specs.Sets.{Fields, Dyns, Optionals}
-use Rattle.lang_ty.proofs.Rows.{written-none, written-more, written-list, written-both, stored-row}
+use Rattle.lang_ty.proofs.Rows.{Copying, copied, copying-more, written-none, written-more, written-list, written-both, stored-row}
 use Rattle.storage.specs.Sets.{retypeFields, retypeDyn, retyped, PutsTypes, PutsDyn, StoresSet}
 use Rattle.cells.specs.Placed.{Holds, Under}
 use mathlib.Core.Option.{Option, none, some}
+
+-- `copy_words` at word i
+pub word-copied : {w₀ w w′ from : List ℕ} {t a n i p o v : ℕ} → w′ ≡ set w p v → p ≡ t + i → v ≡ cell from o → o ≡ a + i → Copying t w₀ from a n w i → i < n
+    → Copying t w₀ from a n w′ (i + 1)
+word-copied put place read from c lt = copying-more c lt (copied place from read put)
 
 -- `put_types` at field i
 pub record Putting (w₀ : List ℕ) (a n : ℕ) (held : List ℕ) (h : ℕ) (w : List ℕ) (i : ℕ) : Type 0 where
@@ -39,35 +44,34 @@ module _ {w₀ held : List ℕ} {a n h : ℕ} where
   pub putting-start : Putting w₀ a n held h w₀ 0
   putting-start = record { few = omega arith; same-length = refl; is = λ j lt. absurd (not-suc-le-zero lt); other = λ k fits un. refl }
 
-  module _ {w : List ℕ} {i : ℕ} (c : Putting w₀ a n held h w i) where
-    pub putting-more : {w′ : List ℕ} {m o p r v : ℕ} → i < n → Sum i i m → Sum m 2 o → p ≡ a + o → r ≡ h + i → v ≡ cell held r → w′ ≡ set w p v
-        → Putting w₀ a n held h w′ (i + 1)
-    putting-more {w′} {m} {o} {p} {r} {v} lt two more place from read put =
-        let at : 2 * n ≤ 4294967295 → p ≡ a + 2 * i + 2 = λ fits. let x = two .is (omega arith) in let y = more .is (omega arith) in omega arith in
-        subst (λ (l : List ℕ). Putting w₀ a n held h l (i + 1)) (sym put)
-        (record {
-          few = omega arith;
-          same-length = length-set w p v ∙ c .same-length;
-          is = λ j lj fits room.
-              let z = at fits in
-              ⊎-elim
-              (λ (e : j ≡ i).
-              let y : a + 2 * j + 2 ≡ p = omega arith in
-              ap (cell (set w p v)) y ∙ getD-set-same w p v 0 (omega (arith, c .same-length)) ∙ read ∙ ap (cell held) (omega arith))
-              (λ (e : j < i). getD-set-other w p (a + 2 * j + 2) v 0 (λ y. omega arith) ∙ c .is j e fits room)
-              (eq-or-lt-of-le (omega arith));
-          other = λ k fits un.
-              let z = at fits in
-              getD-set-other w p k v 0 (λ y. un i (omega arith) (y ∙ z)) ∙ c .other k fits (λ j lj. un j (omega arith));
-        })
+  pub putting-more : {w w′ : List ℕ} {i m o p r v : ℕ} → w′ ≡ set w p v → p ≡ a + o → Sum m 2 o → Sum i i m → v ≡ cell held r → r ≡ h + i
+      → Putting w₀ a n held h w i → i < n → Putting w₀ a n held h w′ (i + 1)
+  putting-more {w} {w′} {i} {m} {o} {p} {r} {v} put place more two read from c lt =
+      let at : 2 * n ≤ 4294967295 → p ≡ a + 2 * i + 2 = λ fits. let x = two .is (omega arith) in let y = more .is (omega arith) in omega arith in
+      subst (λ (l : List ℕ). Putting w₀ a n held h l (i + 1)) (sym put)
+      (record {
+        few = omega arith;
+        same-length = length-set w p v ∙ c .same-length;
+        is = λ j lj fits room.
+            let z = at fits in
+            ⊎-elim
+            (λ (e : j ≡ i).
+            let y : a + 2 * j + 2 ≡ p = omega arith in
+            ap (cell (set w p v)) y ∙ getD-set-same w p v 0 (omega (arith, c .same-length)) ∙ read ∙ ap (cell held) (omega arith))
+            (λ (e : j < i). getD-set-other w p (a + 2 * j + 2) v 0 (λ y. omega arith) ∙ c .is j e fits room)
+            (eq-or-lt-of-le (omega arith));
+        other = λ k fits un.
+            let z = at fits in
+            getD-set-other w p k v 0 (λ y. un i (omega arith) (y ∙ z)) ∙ c .other k fits (λ j lj. un j (omega arith));
+      })
 
-    pub putting-done : n ≤ i → PutsTypes w₀ a n held h w
-    putting-done le =
-        record {
-          same-length = c .same-length;
-          is = λ j lt. c .is j (omega arith);
-          other = λ k fits un. c .other k fits (λ j lt. un j (omega (arith, c .few)));
-        }
+  pub putting-done : {w : List ℕ} {i : ℕ} → Putting w₀ a n held h w i → n ≤ i → PutsTypes w₀ a n held h w
+  putting-done c le =
+      record {
+        same-length = c .same-length;
+        is = λ j lt. c .is j (omega arith);
+        other = λ k fits un. c .other k fits (λ j lt. un j (omega (arith, c .few)));
+      }
 
 -- `put_dyn`
 module _ {w held : List ℕ} {a n dyns h : ℕ} where

@@ -1,11 +1,15 @@
 -- Digits, numbers, and the search for a separator, step by step. Assumes nothing.
-use mathlib.Core.Path.{_≡_, refl, sym, ap, _∙_}
+use mathlib.Core.Path.{_≡_, refl, sym, ap, _∙_, subst}
 use mathlib.Core.Bool.{Bool, true, false}
-use Prim.Native.Nat.{ℕ, _+_, _-_, _*_, _≤_, _<_}
+use Prim.Native.Nat.{ℕ, zero, suc, _+_, _-_, _*_, _≤_, _<_}
 use native.Mathlib.Omega.{arith}
+use native.Mathlib.Numerals.{add-one}
 use mathlib.Core.List.{List, [], _∷_, _++_}
+use lib.ListN.{length, take, length-take, drop-of-length-le}
+use lib.Seq.{slice-cons}
 use lib.Dec.{eqb}
-use borrow.Author.Tests.{lt-ltb, le-ltb, eq-eqb, ne-eqb}
+use Rattle.bytes.specs.Bytes.{slice, indexOf, indexAfter}
+use borrow.Author.Tests.{eqb-true, eqb-false, lt-ltb, le-ltb, eq-eqb, ne-eqb}
 use Rattle.cells.specs.Part.{cell, if}
 use Rattle.cells.proofs.Parts.{eqList-same, eqList-other, eqList-longer}
 use Rattle.rules.specs.Plain.{_>>=_}
@@ -92,13 +96,13 @@ cut-some P f sep got [] = f got []
 cut-some P f sep got (b ∷ bs) = cut-if P (got ∷ cut sep [] bs) (cut sep (got ++ (b ∷ [])) bs) (eqb b sep) (f got (cut sep [] bs)) (cut-some P f sep (got ++ (b ∷ [])) bs)
 
 -- the search: what was passed is the piece so far
-pub record Seeking (s : List ℕ) (from to sep i : ℕ) : Type 0 where
+record Seeking (s : List ℕ) (from to sep i : ℕ) : Type 0 where
   pub low : from ≤ i
   pub high : i ≤ to
   pub is : pieces sep (span s from to) ≡ cut sep (span s from i) (span s i to)
 
 module _ {s : List ℕ} {from to sep : ℕ} where
-  pub seek-start : from ≤ to → Seeking s from to sep from
+  seek-start : from ≤ to → Seeking s from to sep from
   unfolding pieces
   seek-start h = record { low = omega arith; high = h; is = ap (λ (l : List ℕ). cut sep l (span s from to)) (sym (span-none s from from (omega arith))) }
 
@@ -106,14 +110,14 @@ module _ {s : List ℕ} {from to sep : ℕ} where
     turn : i < to → pieces sep (span s from to) ≡ cut sep (span s from i) (cell s i ∷ span s (i + 1) to)
     turn h = inv .is ∙ ap (cut sep (span s from i)) (span-next s i to h)
 
-    pub seek-more : i < to → (cell s i ≡ sep → ⊥) → Seeking s from to sep (i + 1)
+    seek-more : i < to → (cell s i ≡ sep → ⊥) → Seeking s from to sep (i + 1)
     seek-more h e = record {
       low = omega (arith, inv .low);
       high = omega arith;
       is = turn h ∙ simp (ne-eqb (cell s i) sep e) (ap (λ (l : List ℕ). cut sep l (span s (i + 1) to)) (sym (span-snoc s from i (inv .low))));
     }
 
-    pub seek-found : i < to → cell s i ≡ sep → Seek s from to sep i
+    seek-found : i < to → cell s i ≡ sep → Seek s from to sep i
     unfolding pieces
     seek-found h e = record {
       low = inv .low;
@@ -123,7 +127,7 @@ module _ {s : List ℕ} {from to sep : ℕ} where
       last = λ q. absurd (let z : ⊥ = omega arith in z);
     }
 
-    pub seek-none : to ≤ i → Seek s from to sep i
+    seek-none : to ≤ i → Seek s from to sep i
     seek-none h = record {
       low = inv .low;
       high = inv .high;
@@ -131,6 +135,23 @@ module _ {s : List ℕ} {from to sep : ℕ} where
       here = λ q. absurd (let z : ⊥ = omega arith in z);
       last = λ _. inv .is ∙ ap (cut sep (span s from i)) (span-none s i to h);
     }
+
+    -- k more bytes up to it, if it does not stand here
+    index : (b : Bool) (k : ℕ) → eqb (cell s i) sep ≡ b → i < to → (Seeking s from to sep (i + 1) → Seek s from to sep (i + 1 + k)) → Seek s from to sep (i + indexAfter b k)
+    unfolding indexAfter
+    index true k e h f = subst (Seek s from to sep) (omega arith) (seek-found h (eqb-true (cell s i) sep e))
+    index false k e h f = subst (Seek s from to sep) (omega arith) (f (seek-more h (eqb-false (cell s i) sep e)))
+
+  -- so too for the library's index
+  search-from : (n i : ℕ) → i + n ≡ to → to ≤ length s → Seeking s from to sep i → Seek s from to sep (i + indexOf sep (slice i to s))
+  unfolding slice indexOf
+  search-from zero i e h inv = rw (drop-of-length-le (take to s) {i = i} (simp length-take (omega arith))) (subst (Seek s from to sep) (omega arith) (seek-none inv (omega arith)))
+  search-from (suc n) i e h inv =
+      let lt : i < to = omega arith in
+      rw (slice-cons i to s 0 lt h) (index inv (eqb (cell s i) sep) (indexOf sep (slice (suc i) to s)) refl lt (rw add-one (search-from n (suc i) (omega arith) h)))
+
+  pub seek-at : {r : ℕ} → r ≡ from + indexOf sep (slice from to s) → from ≤ to → to ≤ length s → Seek s from to sep r
+  seek-at e h k = rw e (search-from (to - from) from (omega arith) k (seek-start h))
 
 -- a number is of some bytes
 pub number-some : {s : List ℕ} {from to v : ℕ} {r : Num} → Number s from to r → r ≡ Is v → (to ≤ from → ⊥)

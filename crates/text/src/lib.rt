@@ -97,14 +97,7 @@ pub fn seek(s: &[u8], from: usize, to: usize, sep: u8) -> usize
     requires { ⌜ (from ≤ to) × (to ≤ length (now s)) ⌝ }
     ensures { λ e. ⌜ Seek (now (s .entry)) from to sep e ⌝ }
 {
-    let mut i = from;
-    while i < to {
-        if s[i] == sep {
-            return i;
-        }
-        i += 1;
-    }
-    i
+    bytes::scan::find(s, from, to, sep)
 }
 
 // Whether b alone stands between from and to.

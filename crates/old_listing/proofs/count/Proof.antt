@@ -1,5 +1,5 @@
+-- `old_listing::count` meets its contract: the root, the kind of the line and the ranges of its numbers are looked at one by one, and together they are the rules' test. Assumes nothing.
 use Rattle.old_listing.proofs.Forms.{count-many, count-none, count-other, count-passes, count-refused, count-shown, count-unknown}
-use borrow.Author.Needs.{needs}
 use borrow.Author.Needs.{needs}
 use Rattle.old_listing.proofs.count.Statement.{statement}
 use Rattle.old_listing.proofs.count.Tie as tie
@@ -14,7 +14,7 @@ returns-3 : tie.Need-returns-3
 returns-3 c = search count-many
 
 returns-4 : tie.Need-returns-4
-returns-4 c = count-shown (c .before .before .before .before .before .before .before .before .before .at .ensures) (c .before .before .before .before .before .before .before .before .at2 .ensures) (c .before .before .before .before .before .before .before .at3 .ensures) (c .before .before .before .before .before .before .for-root .ensures) (c .before .before .before .before .before .if1 .left) (c .before .before .before .before .if2 .taken) (c .before .before .before .within .ensures) (c .before .before .if3 .left) (c .before .within2 .ensures) (c .if4 .left)
+returns-4 c = search count-shown
 
 returns-5 : tie.Need-returns-5
 returns-5 c = search count-refused

@@ -1,6 +1,5 @@
 use Rattle.old_listing.proofs.Forms.{root-id, root-other}
 use borrow.Author.Needs.{needs}
-use borrow.Author.Needs.{needs}
 use Rattle.old_listing.proofs.for_root.Statement.{statement}
 use Rattle.old_listing.proofs.for_root.Tie as tie
 

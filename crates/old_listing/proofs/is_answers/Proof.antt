@@ -1,5 +1,5 @@
+-- `old_listing::is_answers` meets its contract: the row of such a line has its kind first and then the count. Assumes nothing.
 use Rattle.old_listing.proofs.Takes.{answers-bad, answers-no, answers-yes}
-use borrow.Author.Needs.{needs}
 use borrow.Author.Needs.{needs}
 use Rattle.old_listing.proofs.is_answers.Statement.{statement}
 use Rattle.old_listing.proofs.is_answers.Tie as tie

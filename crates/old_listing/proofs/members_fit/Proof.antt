@@ -1,6 +1,5 @@
 use Rattle.old_listing.proofs.Forms.{members-no, members-yes}
 use borrow.Author.Needs.{needs}
-use borrow.Author.Needs.{needs}
 use Rattle.old_listing.proofs.members_fit.Statement.{statement}
 use Rattle.old_listing.proofs.members_fit.Tie as tie
 

@@ -1,5 +1,5 @@
+-- `old_listing::node_fits` meets its contract: the kind of the row tells which of its words are children, and a kind without any fits. Assumes nothing.
 use Rattle.old_listing.proofs.Forms.{node-else, node-fn, node-inter, node-list, node-named, node-neg, node-set, node-union}
-use borrow.Author.Needs.{needs}
 use borrow.Author.Needs.{needs}
 use Rattle.old_listing.proofs.node_fits.Statement.{statement}
 use Rattle.old_listing.proofs.node_fits.Tie as tie

@@ -1,5 +1,5 @@
+-- `old_listing::node_line` meets its contract: a line in form is the number of the node and, after a tab, a row that fits it. Assumes nothing.
 use Rattle.old_listing.proofs.Takes.{line-bad, line-bare, line-good, line-misnumbered, line-unnumbered}
-use borrow.Author.Needs.{needs}
 use borrow.Author.Needs.{needs}
 use Rattle.old_listing.proofs.node_line.Statement.{statement}
 use Rattle.old_listing.proofs.node_line.Tie as tie

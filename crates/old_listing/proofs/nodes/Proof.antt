@@ -1,3 +1,4 @@
+-- `old_listing::nodes` meets its contract: the lines that are left come to what all of them come to. Assumes nothing.
 use Rattle.old_listing.proofs.Takes.{Walking, line-room, walk-bad, walk-done, walk-last, walk-more, walk-start}
 use borrow.Author.Needs.{needs}
 use Prim.Native.Nat.{_-_}

@@ -1,5 +1,5 @@
+-- `old_listing::nodes_after` meets its contract: what the row of the line says is what the line says, and a line that has no row is not in form. Assumes nothing.
 use Rattle.old_listing.proofs.Takes.{after-bad, after-count}
-use borrow.Author.Needs.{needs}
 use borrow.Author.Needs.{needs}
 use Rattle.old_listing.proofs.nodes_after.Statement.{statement}
 use Rattle.old_listing.proofs.nodes_after.Tie as tie

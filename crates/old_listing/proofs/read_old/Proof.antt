@@ -1,5 +1,5 @@
+-- `old_listing::read_old` meets its contract: after the first line, which has to be `answers` with the count, all lines are the roots'. Assumes nothing.
 use Rattle.old_listing.proofs.Takes.{old-long, old-none, old-other, old-poor, old-roots}
-use borrow.Author.Needs.{needs}
 use borrow.Author.Needs.{needs}
 use Rattle.old_listing.proofs.read_old.Statement.{statement}
 use Rattle.old_listing.proofs.read_old.Tie as tie

@@ -1,5 +1,5 @@
+-- `old_listing::root` meets its contract: the root's own line tells how many lines of nodes there are after it. Assumes nothing.
 use Rattle.old_listing.proofs.Takes.{line-room, root-bad, root-good, root-last, root-ready}
-use borrow.Author.Needs.{needs}
 use borrow.Author.Needs.{needs}
 use Rattle.old_listing.proofs.root.Statement.{statement}
 use Rattle.old_listing.proofs.root.Tie as tie

@@ -1,5 +1,4 @@
 use borrow.Author.Needs.{needs}
-use borrow.Author.Needs.{needs}
 use Rattle.old_listing.proofs.root_word.Statement.{statement}
 use Rattle.old_listing.proofs.root_word.Tie as tie
 

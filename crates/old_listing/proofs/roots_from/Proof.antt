@@ -1,3 +1,4 @@
+-- `old_listing::roots_from` meets its contract: the texts of the roots before, and the roots that are left, come to what all of them come to. Assumes nothing.
 use Rattle.old_listing.proofs.Takes.{Rooting, rooting-done, rooting-fault, rooting-more, rooting-ready, rooting-start, rooting-surplus}
 use borrow.Author.Needs.{needs}
 use Prim.Native.Nat.{_-_}
@@ -7,7 +8,8 @@ use Rattle.old_listing.proofs.roots_from.Statement.{statement}
 use Rattle.old_listing.proofs.roots_from.Tie as tie
 
 abbrev Inv-loop : tie.InvT-loop
-Inv-loop s spans₀ table words₀ from names first roots at₀ line₀ i₀ spans words at line i = Rooting s from names table first roots spans₀ spans at line i × (length words ≡ length words₀)
+Inv-loop s spans₀ table words₀ from names first roots at₀ line₀ i₀ spans words at line i =
+    Rooting s from names table first roots spans₀ spans at line i × (length words ≡ length words₀)
 
 abbrev μ-loop : tie.MeasureT-loop
 μ-loop s spans₀ table words₀ from names first roots at₀ line₀ i₀ spans words at line i = roots - i
@@ -22,7 +24,7 @@ returns : tie.Need-returns Inv-loop μ-loop
 returns c = search rooting-fault
 
 loop-again : tie.Need-loop-again Inv-loop μ-loop
-loop-again c = (rooting-more (c .before .before .before .before .before .before .before .before .before .before .before .before .before .before .loop .inv .0) (search needs) (c .before .before .before .before .before .before .before .before .before .before .before .set .ensures) (c .before .before .before .before .before .before .before .before .root-word .ensures) (c .before .before .before .before .before .before .before .root-word2 .ensures) (c .before .before .before .before .before .root .ensures) (c .before .q .given .1), search needs)
+loop-again c = (search rooting-more, search needs)
 
 returns-2 : tie.Need-returns-2 Inv-loop μ-loop
 returns-2 c = search rooting-surplus

@@ -1,5 +1,5 @@
+-- `old_listing::set_fits` meets its contract: children, order of keys, order of optional keys and names are looked at one by one, and together they are the rules' test. Assumes nothing.
 use Rattle.old_listing.proofs.Forms.{set-keys-no, set-kids-no, set-last, set-optional-no}
-use borrow.Author.Needs.{needs}
 use borrow.Author.Needs.{needs}
 use Rattle.old_listing.proofs.set_fits.Statement.{statement}
 use Rattle.old_listing.proofs.set_fits.Tie as tie

@@ -1,3 +1,4 @@
+-- `storage::entries::entry_at` meets its contract: the kind of the row tells the variant, and the words after it are what the variant holds. Assumes nothing.
 use Rattle.storage.proofs.EntryReads.{read-variable, read-primitive, read-tyvar, read-list, read-set, read-neg, read-two}
 use borrow.Author.Needs.{needs}
 use Rattle.storage.proofs.entries.entry_at.Statement.{statement}

@@ -1,3 +1,4 @@
+-- `storage::entries::find_named` meets its contract: the bounds that are left have the same first Named as all of them. Assumes nothing.
 use Rattle.storage.proofs.EntryReads.{Naming, naming-start, naming-here, naming-more, naming-done}
 use borrow.Author.Needs.{needs}
 use Prim.Native.Nat.{_-_}

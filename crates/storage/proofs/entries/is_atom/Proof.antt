@@ -1,3 +1,4 @@
+-- `storage::entries::is_atom` meets its contract: of a neg the kind of its child decides, of any other entry its own kind. Assumes nothing.
 use Rattle.storage.proofs.EntryReads.{atom-neg, atom-other}
 use borrow.Author.Needs.{needs}
 use Rattle.storage.proofs.entries.is_atom.Statement.{statement}

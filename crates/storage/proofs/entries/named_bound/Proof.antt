@@ -1,3 +1,4 @@
+-- `storage::entries::named_bound` meets its contract: the lowers stand before the uppers, so one found among them is the first of all. Assumes nothing.
 use Rattle.storage.proofs.EntryReads.{named-lower, named-upper}
 use borrow.Author.Needs.{needs}
 use Rattle.storage.proofs.entries.named_bound.Statement.{statement}

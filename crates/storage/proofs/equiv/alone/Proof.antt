@@ -1,3 +1,4 @@
+-- `storage::equiv::alone` meets its contract: each id that was passed is its own parent. Assumes nothing.
 use Rattle.storage.proofs.Forests.{Lone, lone-start, lone-more, lone-done}
 use borrow.Author.Needs.{needs}
 use Prim.Native.Nat.{_-_}

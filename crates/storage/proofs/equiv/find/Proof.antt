@@ -1,3 +1,4 @@
+-- `storage::equiv::find` meets its contract: each step stays in the class and comes nearer to its end, and no chain has as many steps as there are ids. Assumes nothing.
 use Rattle.storage.proofs.Forests.{Climbing, climbing-start, climbing-more, climbing-here, climbing-done}
 use borrow.Author.Needs.{needs}
 use Prim.Native.Nat.{_-_}

@@ -1,3 +1,4 @@
+-- `storage::equiv::from_storage` meets its contract: single ids are joined pair by pair, and then each parent is the representative. Assumes nothing.
 use Rattle.storage.proofs.Forests.{represents-is}
 use borrow.Author.Needs.{needs}
 use Rattle.storage.proofs.equiv.from_storage.Statement.{statement}

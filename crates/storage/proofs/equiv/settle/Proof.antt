@@ -1,3 +1,4 @@
+-- `storage::equiv::settle` meets its contract: the parent of each id that was passed is its representative, and finding another leaves it so. Assumes nothing.
 use Rattle.storage.proofs.Forests.{Settling, settling-start, settling-more, settling-done}
 use borrow.Author.Needs.{needs}
 use Prim.Native.Nat.{_-_}

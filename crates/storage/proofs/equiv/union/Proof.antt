@@ -1,3 +1,4 @@
+-- `storage::equiv::union` meets its contract: the end of the first chain gets the end of the second as its parent, and an id past the entries joins nothing. Assumes nothing.
 use Rattle.storage.proofs.Forests.{unites-first, unites-second, unites-both}
 use borrow.Author.Needs.{needs}
 use Rattle.storage.proofs.equiv.union.Statement.{statement}

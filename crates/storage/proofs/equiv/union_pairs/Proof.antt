@@ -1,3 +1,4 @@
+-- `storage::equiv::union_pairs` meets its contract: after i pairs the classes are those of the first i, and the pairs, which stand after the parents, are as they were. Assumes nothing.
 use Rattle.storage.proofs.Forests.{Uniting, uniting-start, uniting-more, uniting-done}
 use borrow.Author.Needs.{needs}
 use Prim.Native.Nat.{_-_}

@@ -1,3 +1,4 @@
+-- `storage::held::begin_list` meets its contract: the polarity and the two marks tell whether it is no bound, the lowers, or the atoms among the uppers. Assumes nothing.
 use Rattle.storage.proofs.HeldBounds.{begin-marked, begin-rep, begin-upper, begin-lower}
 use borrow.Author.Needs.{needs}
 use Rattle.storage.proofs.held.begin_list.Statement.{statement}

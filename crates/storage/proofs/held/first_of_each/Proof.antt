@@ -1,3 +1,4 @@
+-- `storage::held::first_of_each` meets its contract: after i ids the first of each among them is held, and just these are marked. Assumes nothing.
 use Rattle.storage.proofs.HeldOnce.{Firsting, firsting-start, firsting-more, firsting-done}
 use native.Mathlib.Omega.{arith}
 use borrow.Author.Needs.{needs}
@@ -14,13 +15,13 @@ abbrev μ-loop : tie.MeasureT-loop
 μ-loop work₀ h n k₀ i₀ work k i = n - i
 
 loop-holds : tie.Need-loop-holds Inv-loop μ-loop
-loop-holds c = (firsting-start, search needs)
+loop-holds c = (firsting-start (omega arith), search needs)
 
 loop-again : tie.Need-loop-again Inv-loop μ-loop
-loop-again c = (firsting-more (c .before .before .before .before .before .before .before .before .loop .inv .0) (c .before .before .before .before .before .before .before .before .loop .inv .1) (c .before .before .before .before .before .before .before .loop-test .taken) (omega arith) (c .before .before .before .before .place .ensures) (c .before .before .before .get .ensures) (c .before .before .hold-first .ensures), search needs)
+loop-again c = (search firsting-more, search needs)
 
 returns : tie.Need-returns Inv-loop μ-loop
-returns c = firsting-done (c .before .loop .inv .0) (c .loop-test .left)
+returns c = search firsting-done
 
 pub first-of-each-spec : {M : Type 1} → statement M
 first-of-each-spec =

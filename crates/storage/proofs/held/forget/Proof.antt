@@ -1,3 +1,4 @@
+-- `storage::held::forget` meets its contract: after i ids the marks of these are gone, and no cell but a mark has changed. Assumes nothing.
 use Rattle.storage.proofs.HeldOnce.{Forgetting, forgetting-start, forgetting-more, forgetting-done}
 use borrow.Author.Needs.{needs}
 use Prim.Native.Nat.{_-_}
@@ -16,10 +17,10 @@ loop-holds : tie.Need-loop-holds Inv-loop μ-loop
 loop-holds c = (forgetting-start, search needs)
 
 loop-again : tie.Need-loop-again Inv-loop μ-loop
-loop-again c = (forgetting-more (c .before .before .before .before .before .before .before .before .before .loop .inv .0) (c .before .before .before .before .before .before .before .before .before .loop .inv .1) (c .before .before .before .before .before .before .before .before .loop-test .taken) (c .before .before .before .before .before .before .place .ensures) (c .before .before .before .before .before .get .ensures) (c .before .before .before .place2 .ensures) (c .before .before .put .ensures), search needs)
+loop-again c = (search forgetting-more, search needs)
 
 returns : tie.Need-returns Inv-loop μ-loop
-returns c = forgetting-done (c .before .loop .inv .0) (c .loop-test .left)
+returns c = search forgetting-done
 
 pub forget-spec : {M : Type 1} → statement M
 forget-spec =

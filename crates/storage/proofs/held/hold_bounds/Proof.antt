@@ -1,3 +1,4 @@
+-- `storage::held::hold_bounds` meets its contract: after i bounds the wanted ones among them are held, and nothing below h has changed. Assumes nothing.
 use Rattle.storage.proofs.HeldIds.{Bounding, bounding-start, bounding-more, bounding-done}
 use borrow.Author.Needs.{needs}
 use Prim.Native.Nat.{_-_}
@@ -13,13 +14,13 @@ abbrev μ-loop : tie.MeasureT-loop
 μ-loop table c work₀ h l which n k₀ i₀ work k i = n - i
 
 loop-holds : tie.Need-loop-holds Inv-loop μ-loop
-loop-holds c = (bounding-start (c .at .ensures), search needs)
+loop-holds c = (search bounding-start, search needs)
 
 loop-again : tie.Need-loop-again Inv-loop μ-loop
-loop-again c = (bounding-more (c .before .before .before .before .before .before .before .before .before .loop .inv .0) (c .before .before .before .before .before .before .before .before .before .loop .inv .1) (c .before .before .before .before .before .before .before .before .loop-test .taken) (c .before .before .before .before .before .before .before .add .ensures) (c .before .before .before .before .before .before .place .ensures) (c .before .before .before .before .before .get .ensures) (c .before .before .before .is-wanted .ensures) (c .before .before .hold-if .ensures), search needs)
+loop-again c = (search bounding-more, search needs)
 
 returns : tie.Need-returns Inv-loop μ-loop
-returns c = bounding-done (c .before .loop .inv .0) (c .loop-test .left)
+returns c = search bounding-done
 
 pub hold-bounds-spec : {M : Type 1} → statement M
 hold-bounds-spec =

@@ -1,3 +1,4 @@
+-- `storage::held::hold_children` meets its contract: the kind of the entry tells which ids are its children, and a kind without any holds none. Assumes nothing.
 use Rattle.storage.proofs.HeldIds.{children-list, children-lambda, children-set, children-neg, children-named, children-union, children-none}
 use borrow.Author.Needs.{needs}
 use Rattle.storage.proofs.held.hold_children.Statement.{statement}

@@ -1,16 +1,11 @@
-use mathlib.Core.Path.{refl}
+-- `storage::held::hold_first` meets its contract: an id is held just if its mark was zero before it was set. Assumes nothing.
 use Rattle.storage.proofs.HeldOnce.{first-is}
 use borrow.Author.Needs.{needs}
 use Rattle.storage.proofs.held.hold_first.Statement.{statement}
 use Rattle.storage.proofs.held.hold_first.Tie as tie
 
 returns : tie.Need-returns
-returns c =
-    let hold-if = c .before .before in
-    let put = hold-if .before .before .before .before in
-    let get = put .before .before in
-    let place = get .before .before in
-    first-is (place .place .ensures) (get .get .ensures) (put .put .ensures) refl (hold-if .hold-if .ensures)
+returns c = search first-is
 
 pub hold-first-spec : {M : Type 1} → statement M
 hold-first-spec =

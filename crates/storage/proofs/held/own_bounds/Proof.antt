@@ -1,24 +1,17 @@
+-- `storage::held::own_bounds` meets its contract: bounds that are no variables are taken first, then the variable itself if it is preserved, and else the bounds of other classes. Assumes nothing.
 use Rattle.storage.proofs.HeldBounds.{own-concrete, own-variable, own-others}
 use borrow.Author.Needs.{needs}
 use Rattle.storage.proofs.held.own_bounds.Statement.{statement}
 use Rattle.storage.proofs.held.own_bounds.Tie as tie
 
 returns : tie.Need-returns
-returns c =
-    let hold-bounds = c .before .before .before in
-    let is-preserved = hold-bounds .before .before in
-    let own-list = is-preserved .before in
-    own-concrete (own-list .own-list .ensures) (is-preserved .is-preserved .ensures) (hold-bounds .hold-bounds .ensures) (c .if1 .taken)
+returns c = search own-concrete
 
 returns-2 : tie.Need-returns-2
-returns-2 c =
-    let hold-bounds = c .before .before .before .before in
-    let is-preserved = hold-bounds .before .before in
-    let own-list = is-preserved .before in
-    own-variable (own-list .own-list .ensures) (is-preserved .is-preserved .ensures) (hold-bounds .hold-bounds .ensures) (c .before .if1 .left) (c .if2 .taken)
+returns-2 c = search own-variable
 
 returns-3 : tie.Need-returns-3
-returns-3 c = own-others (c .before .before .before .before .before .before .before .before .before .before .before .before .own-list .ensures) (c .before .before .before .before .before .before .before .before .before .before .before .is-preserved .ensures) (c .before .before .before .before .before .before .before .before .before .hold-bounds .ensures) (c .before .before .before .before .before .before .if1 .left) (c .before .before .before .before .before .if2 .left) (c .before .before .before .before .rep .ensures) (search needs) (c .before .before .hold-bounds2 .ensures)
+returns-3 c = search own-others
 
 pub own-bounds-spec : {M : Type 1} → statement M
 own-bounds-spec =

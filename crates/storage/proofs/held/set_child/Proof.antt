@@ -1,3 +1,4 @@
+-- `storage::held::set_child` meets its contract: the dyn is the child after the last field. Assumes nothing.
 use Rattle.storage.proofs.HeldIds.{child-field, child-dyn}
 use borrow.Author.Needs.{needs}
 use Rattle.storage.proofs.held.set_child.Statement.{statement}

@@ -1,4 +1,6 @@
-use Rattle.lang_ty.proofs.Rows.{Copying, copying-start, copied, copying-more, copying-done}
+-- `storage::sets::copy_words` meets its contract: after i words these stand where they are to stand, and nothing before them has changed. Assumes nothing.
+use Rattle.lang_ty.proofs.Rows.{Copying, copying-start, copying-done}
+use Rattle.storage.proofs.SetNodes.{word-copied}
 use Prim.Native.Nat.{_-_}
 use borrow.Author.Needs.{needs}
 use Rattle.storage.proofs.sets.copy_words.Statement.{statement}
@@ -14,15 +16,7 @@ loop-holds : tie.Need-loop-holds Inv-loop μ-loop
 loop-holds c = search copying-start
 
 loop-again : tie.Need-loop-again Inv-loop μ-loop
-loop-again c =
-    let put = c .before .before in
-    let get = put .before in
-    let place2 = get .before in
-    let place = place2 .before in
-    let loop-test = place .before .before in
-    let loop = loop-test .before in
-    copying-more (loop .loop .inv) (loop-test .loop-test .taken)
-    (copied (place .place .ensures) (place2 .place2 .ensures) (get .get .ensures) (put .put .ensures))
+loop-again c = search word-copied
 
 returns : tie.Need-returns Inv-loop μ-loop
 returns c = search copying-done

@@ -1,3 +1,4 @@
+-- `storage::sets::put_dyn` meets its contract: the id of a dyn stands after the fields, and without a dyn nothing is put. Assumes nothing.
 use Rattle.storage.proofs.SetNodes.{dyn-put, dyn-left}
 use borrow.Author.Needs.{needs}
 use Rattle.storage.proofs.sets.put_dyn.Statement.{statement}

@@ -1,3 +1,4 @@
+-- `storage::sets::put_types` meets its contract: after i fields these have their answers in place of their ids, and no other word has changed. Assumes nothing.
 use Rattle.storage.proofs.SetNodes.{Putting, putting-start, putting-more, putting-done}
 use Prim.Native.Nat.{_-_}
 use borrow.Author.Needs.{needs}
@@ -14,17 +15,7 @@ loop-holds : tie.Need-loop-holds Inv-loop μ-loop
 loop-holds c = putting-start
 
 loop-again : tie.Need-loop-again Inv-loop μ-loop
-loop-again c =
-    let put = c .before .before in
-    let get = put .before in
-    let place2 = get .before in
-    let place = place2 .before in
-    let add2 = place .before in
-    let add = add2 .before in
-    let loop-test = add .before .before in
-    let loop = loop-test .before in
-    putting-more (loop .loop .inv) (loop-test .loop-test .taken) (add .add .ensures) (add2 .add2 .ensures) (place .place .ensures) (place2 .place2 .ensures)
-    (get .get .ensures) (put .put .ensures)
+loop-again c = search putting-more
 
 returns : tie.Need-returns Inv-loop μ-loop
 returns c = search putting-done

@@ -1,3 +1,4 @@
+-- `storage::sets::store_set` meets its contract: the row is the table's with each id replaced by its answer, which is the row of the rules' set. Assumes nothing.
 use Rattle.storage.proofs.SetNodes.{stores-set}
 use borrow.Author.Needs.{needs}
 use Rattle.storage.proofs.sets.store_set.Statement.{statement}

@@ -1,3 +1,4 @@
+-- `storage::vars::beside` meets its contract: the variable is stored first, and node x joins it unless that is a TyVar or Bottom. Assumes nothing.
 use Rattle.storage.proofs.Variables.{beside-tyvar, beside-bottom, beside-both, beside-refused}
 use borrow.Author.Needs.{needs}
 use Rattle.storage.proofs.vars.beside.Statement.{statement}

@@ -20,7 +20,9 @@ returns-2 : tie.Need-returns-2
 returns-2 c = search line-fault
 
 returns-3 : tie.Need-returns-3
-returns-3 c = line-taken (c .before .before .before .before .before .before .before .before .before .before .before .before .before .before .before .before .before .before .before .before .pre .0) (c .before .before .before .before .before .before .before .before .before .before .before .before .before .before .before .row-of .ensures) (search needs) (c .before .before .before .before .before .before .before .before .judge .ensures) (search needs) (search needs)
+returns-3 c =
+    let ready = c .before .before .before .before .before .before .before .before .before .before .before .before .before .before .before .before .before .before .before .before .pre .0 in
+    search line-taken
 
 pub line-spec : {M : Type 1} → statement M
 line-spec =

@@ -1,3 +1,4 @@
+-- `storage::notes::PolarityBits::add` meets its contract: a bit is added only where it is not there yet. Assumes nothing.
 use Rattle.storage.proofs.Noted.{adds-positive, has-positive, adds-negative, has-negative}
 use borrow.Author.Needs.{needs}
 use Rattle.storage.proofs.notes.PolarityBits.add.Statement.{statement}
