@@ -287,7 +287,7 @@ run-take f a n zero le = refl
 run-take f a zero (suc i) le = absurd (not-suc-le-zero le)
 run-take f a (suc n) (suc i) le = ap (λ (l : List ℕ). f a ∷ l) (run-take f (suc a) n i (omega arith))
 
--- the cell written, behind those before it
+-- the cell written, after those before it
 put-at : (s : List ℕ) (j v : ℕ) → j < length s → part (set s j v) 0 (suc j) ≡ part s 0 j ++ (v ∷ [])
 put-at s j v lt = let z : j ≡ 0 + j = omega arith in ap (λ (m : ℕ). part (set s m v) 0 (suc j)) z ∙ part-set-snoc s 0 j v (omega arith)
 

@@ -41,7 +41,7 @@ pub record Picks (f : List Node → List ℕ → ℕ → Bool) (w ms : List ℕ)
   pub is : {q : Pass} {ns : List Node} {xs : List ℕ} → Arena w q ns → Taken (firstOf n ms) xs (length ns) → u < length ns
       → Taken r (filter (f ns xs) (membersAt ns u)) (length ns)
 
--- what is left of union u, behind what was gathered
+-- what is left of union u, after what was gathered
 pub record Remains (w : List ℕ) (q : Pass) (ms : List ℕ) (n u : ℕ) (out : List ℕ) (k : ℕ) (w′ out′ : List ℕ) (r : Grown) : Type 0 where
   pub is : {st : State} {xs got : List ℕ} → Stands st w q → Taken (firstOf n ms) xs (q .nodes) → u < q .nodes → Gathered out k got → length got < mostMembers
       → AnswersGrown (sole Union (without xs (membersAt (st .nodes) u)) st) w′ got out′ r

@@ -86,7 +86,7 @@ fn pick(arena: &[u32], t: Wanted, s: &[u32], n: u32, u: u32) -> Members
     Members { count: k, at: out }
 }
 
-// What is left of union u without the first n cells of s, put behind the first k cells of out.
+// What is left of union u without the first n cells of s, put after the first k cells of out.
 fn remainder(
     arena: &mut [u32],
     q: Pass,
@@ -134,7 +134,7 @@ fn remainders(arena: &mut [u32], p: Pass, shared: Members, unions: Members) -> L
     }
 }
 
-// Whether node y comes behind node x in the order of nodes.
+// Whether node y comes after node x in the order of nodes.
 fn is_behind(arena: &[u32], y: u32, x: u32) -> bool
     ensures { λ r. ⌜ Pairs behind (now (arena .entry)) y x r ⌝ }
 {

@@ -1,18 +1,16 @@
 -- What callers cite of the store: an answer taken apart, a store of each kind of node, and the slices with no node. Assumes nothing.
 use mathlib.Core.Path.{_≡_, refl, sym, ap, _∙_, subst}
-use Prim.Native.Nat.{ℕ, _+_, _*_, _≤_, _<_}
+use Prim.Native.Nat.{ℕ, _≤_, _<_}
 use native.Mathlib.Omega.{arith}
 use mathlib.Core.List.{List, [], _∷_}
 use lib.ListN.{length}
 use Rattle.cells.specs.Part.{cell}
 use Rattle.layout.specs.Layout.{arenaWords, arenaLength}
-use Rattle.rules.specs.Table.{Attr, attrKids}
-use Rattle.rules.specs.Types.{State, Out, no, Node, TyVar, Primitive, ListOf, Lambda, AttrSet, Union, Intersection, Named, Bottom, encode, store}
+use Rattle.rules.specs.Types.{State, Out, no, Node, TyVar, Primitive, ListOf, Lambda, Union, Intersection, Named, Bottom, encode, store}
 use Rattle.lang_ty.specs.declared.arena.Pass.{Pass}
 use Rattle.lang_ty.specs.declared.arena.Given.{Given}
 use Rattle.lang_ty.specs.declared.arena.Given.the-variants.{Node as NodeG, Refused}
-use Rattle.lang_ty.specs.Nodes.{Stands, Gives, Answer, Answers, Fits, Interned, Stored}
-use Rattle.cells.specs.Placed.{Holds, Under}
+use Rattle.lang_ty.specs.Nodes.{Stands, Gives, Answer, Answers, Fits, Stored}
 
 module _ {o : Out ℕ} {w : List ℕ} {r : Given} where
   pub gives : {x : ℕ} {q : Pass} → Answers o w r → r ≡ NodeG x q → Gives o w x q
@@ -57,13 +55,6 @@ module _ {st : State} {w w′ : List ℕ} {q : Pass} {r : Given} (on : Stands st
       pub stored-intersection : Stored (6 ∷ 2 ∷ a ∷ b ∷ []) 2 w q w′ r → a < q .nodes → b < q .nodes → Answers (store (Intersection (a ∷ b ∷ [])) st) w′ r
       stored-intersection h lt lt′ =
           h .is {n = Intersection (a ∷ b ∷ [])} on (record { cells = refl; few = omega arith; below = (lt, (lt′, tt)); short = omega arith }) refl
-
--- a set whose row stands after the others
-pub interned-set : {st : State} {w w′ : List ℕ} {q : Pass} {len cells : ℕ} {r : Given} (t : Attr) → Stands st w q → Interned w q len cells w′ r
-    → Holds w (cell w (q .nodes)) (encode (AttrSet t)) → len ≡ length (encode (AttrSet t)) → len ≤ 8192 → cells ≡ 2 * length (t .fields) + length (t .optional)
-    → Under (q .nodes) (attrKids t) → Answers (store (AttrSet t) st) w′ r
-interned-set t on h row size short cells below =
-    h .is {n = AttrSet t} on (record { cells = omega arith; few = omega arith; below = below; short = omega arith }) row size
 
 -- the slice holds no node
 pub stands-none : {st : State} {w : List ℕ} {q : Pass} → st .nodes ≡ [] → st .cells ≡ 0 → st .ops ≡ q .ops → st .sorted ≡ q .sorted → st .bailed ≡ q .bailed

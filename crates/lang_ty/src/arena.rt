@@ -251,7 +251,7 @@ fn copy_one(words: &mut [u32], t: u32, from: &[u32], a: u32, i: u32)
 }
 
 // The n numbers from a on in another slice, written from t on.
-fn copy(words: &mut [u32], t: u32, from: &[u32], a: u32, n: u32)
+pub fn copy(words: &mut [u32], t: u32, from: &[u32], a: u32, n: u32)
     ensures { λ _. ⌜ Written t (now (words .entry)) (now (words .exit)) (part (now (from .entry)) a n) ⌝ }
 {
     let mut i = 0;

@@ -66,7 +66,7 @@ rise-of a c (f ∷ g ∷ gs) le h u e =
     let m = u .0 in
     (e (omega arith), rise-of (suc (f .key)) c (g ∷ gs) (omega arith) (z .1) (u .1) (λ k. omega arith))
 
--- a field behind all of these goes into what follows them
+-- a field after all of these goes into what follows them
 module _ (f : Field) (gs : List Field) (st : State) where
   past-bind : (g : Field) (ds : List Field) (o : Out (List Field)) → bind (bind o (λ hs. give (ds ++ hs))) (λ hs. give (g ∷ hs)) ≡ bind o (λ hs. give (g ∷ (ds ++ hs)))
   past-bind g ds (ok hs s) = refl

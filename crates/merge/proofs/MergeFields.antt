@@ -290,7 +290,7 @@ module _ (held : List ℕ) (b k key ty : ℕ) where
       getD-set-other (set held (b + 2 * k) key) (b + 2 * k + 1) c ty 0 (λ e. ⊎-elim (λ l. omega arith) (λ l. omega arith) o)
       ∙ getD-set-other held (b + 2 * k) c key 0 (λ e. ⊎-elim (λ l. omega arith) (λ l. omega arith) o)
 
-  -- one more field behind those that are held
+  -- one more field after those that are held
   put-more : (fs : List Field) → k ≡ length fs → Holds held b (fieldWords fs) → b + 2 * k + 2 ≤ length held
       → Holds (putAt held b k key ty) b (fieldWords (fs ++ (record { key = key; type = ty } ∷ [])))
   put-more fs e h room =

@@ -28,7 +28,7 @@ use Rattle.lang_ty.specs.Nodes as nodes
 use Rattle.lang_ty.specs.Sets.{SetAt, Open, HasField, HasOptional}
 use Rattle.lang_ty.specs.Shapes.{SetPlace}
 use Rattle.lang_ty.proofs.Words.{high}
-use Rattle.lang_ty.proofs.Rows.{stored-row, Copying, copied, copying-more, written-none, written-more, written-list, written-both, written-two, stands-below}
+use Rattle.lang_ty.proofs.Rows.{stored-row, written-none, written-more, written-list, written-both, written-two, stands-below}
 use Rattle.members.specs.declared.lists.Members.{Members}
 use Rattle.members.specs.declared.lists.Flow.{Flow}
 use Rattle.members.specs.declared.lists.Flow.the-variants.{On as OnF}
@@ -114,11 +114,6 @@ module _ {w ms : List ℕ} {n : ℕ} {b : Bool} (c : AllPass opened w ms n b) wh
 
   pub open-not : b ≡ false → OpenIfAll w ms n 0
   open-not e = open-by e
-
--- `write_held`, one number more
-pub held-more : {t : ℕ} {w₀ w w′ held : List ℕ} {a n i p o v : ℕ} → Copying t w₀ held a n w i → w′ ≡ set w p v → v ≡ cell held o → p ≡ t + i → o ≡ a + i → i < n
-    → Copying t w₀ held a n w′ (i + 1)
-held-more inv put get to from lt = copying-more inv lt (copied to from get put)
 
 -- the words of a dyn
 words-none : (d : Option ℕ) → length (dynIds d) ≡ 0 → dynWords d ≡ 0 ∷ []

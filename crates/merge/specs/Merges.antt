@@ -302,7 +302,7 @@ pub record StoresMerged (w held : List ℕ) (q : Pass) (g : Merging) (m : Member
   pub is : {st : State} {xs : List ℕ} {fs : List Field} {d : Option ℕ} → Stands st w q → Taken m xs (q .nodes) → AllSets (st .nodes) xs
       → Got held g fs d (q .nodes) → Stores (store (mergedNode (attrsOf (st .nodes) xs) fs d) st) w′ r
 
--- the others, and behind them the node that the sets ts come to
+-- the others, and after them the node that the sets ts come to
 pub record MergedLast (w held : List ℕ) (d : Merged) (m n : Members) (w′ : List ℕ) (r : Listed) : Type 0 where
   pub is : (before : Then → Out ℕ) (st : State) (h : ℕ) {xs ys : List ℕ} → AnswersMerged before [] st w held h d → Taken m xs (length (st .nodes))
       → AllSets (st .nodes) xs

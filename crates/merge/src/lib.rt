@@ -251,7 +251,7 @@ fn other_area(h: u32, a: u32) -> u32
     h
 }
 
-// g with the set of node x: dyn first, then the fields in key order. The fields move between the areas at h and behind it.
+// g with the set of node x: dyn first, then the fields in key order. The fields move between the areas at h and after it.
 fn merge_one(arena: &mut [u32], held: &mut [u32], h: u32, q: Pass, g: Merging, x: u32) -> Merged
     ensures { λ r. ⌜ MergesOne (now (arena .entry)) (now (held .entry)) h q g x (now (arena .exit)) (now (held .exit)) r ⌝ }
 {
@@ -346,17 +346,6 @@ fn open_if_all(arena: &[u32], s: &[u32], n: u32) -> u32
     }
 }
 
-// The n numbers held from a on, written from t on.
-fn write_held(words: &mut [u32], t: u32, held: &[u32], a: u32, n: u32)
-    ensures { λ _. ⌜ Written t (now (words .entry)) (now (words .exit)) (part (now (held .entry)) a n) ⌝ }
-{
-    let mut i = 0;
-    while i < n {
-        put(words, place(t, i), get(held, place(a, i)));
-        i += 1;
-    }
-}
-
 // The dyn of g written after the d words from t on; how many words there are then.
 fn write_dyn(words: &mut [u32], t: u32, d: u32, g: Merging) -> u32
     ensures { λ r. ⌜ WritesDyn (now (words .entry)) t d g (now (words .exit)) r ⌝ }
@@ -376,11 +365,11 @@ fn write_fields(words: &mut [u32], t: u32, held: &[u32], g: Merging) -> u32
     let n = add(g.fields, g.fields);
     set(words, t, OutputTy::ATTR_SET);
     put(words, place(t, 1), g.fields);
-    write_held(words, add(t, 2), held, g.area, n);
+    arena::copy(words, add(t, 2), held, g.area, n);
     write_dyn(words, t, add(n, 2), g)
 }
 
-// x written behind the k words from o on, if it is kept; how many there are then.
+// x written after the k words from o on, if it is kept; how many there are then.
 fn put_if(words: &mut [u32], o: u32, k: u32, x: u32, kept: bool) -> u32
     ensures { λ r. ⌜ PutsIf (now (words .entry)) o k x kept (now (words .exit)) r ⌝ }
 {
@@ -437,7 +426,7 @@ fn store_merged(arena: &mut [u32], held: &[u32], q: Pass, g: Merging, sets: Memb
     )
 }
 
-// The merged set stored, behind the other members.
+// The merged set stored, after the other members.
 fn merged_last(arena: &mut [u32], held: &[u32], d: Merged, sets: Members, others: Members) -> Listed
     ensures { λ r. ⌜ MergedLast (now (arena .entry)) (now (held .entry)) d sets others (now (arena .exit)) r ⌝ }
 {

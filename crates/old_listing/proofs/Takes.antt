@@ -233,7 +233,7 @@ module _ {s : List ℕ} {from k e names id sign : ℕ} (y : Seek s from (length 
 pub root-ready : {s w w′ : List ℕ} {from k e : ℕ} → Ready s from k w → length w′ ≡ length w → Seek s from (length s) 10 e → (e ≡ length s → ⊥) → Ready s (e + 1) (k + 1) w′
 root-ready g l y h = record { within = omega (arith, y .high); short = g .short; early = omega (arith, g .early, y .low); room = omega (arith, g .room) }
 
--- what is left behind the last root
+-- what is left after the last root
 end-if : (k : ℕ) (g q : List (List ℕ)) (t : Bool) → atEnd k g ≡ refused 11 k → atEnd k q ≡ refused 11 k → atEnd k (if t (λ _. g) (λ _. q)) ≡ refused 11 k
 end-if k g q true h i = h
 end-if k g q false h i = i

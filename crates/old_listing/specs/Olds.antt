@@ -109,7 +109,7 @@ pub record Roots (s : List ℕ) (from names : ℕ) (table : List ℕ) (first n :
 pub record IsAnswers (s : List ℕ) (from to n : ℕ) (r : Bool) : Type 0 where
   pub is : r ≡ isAnswers n (rowOf headKinds (span s from to))
 
--- an old listing read: where the spans and the words are long enough, the answer with the spans is what the rules say. What stood behind the
+-- an old listing read: where the spans and the words are long enough, the answer with the spans is what the rules say. What stood after the
 -- spans stands there still
 pub record Read (s : List ℕ) (names : ℕ) (table : List ℕ) (first n : ℕ) (spans w spans′ : List ℕ) (r : Old) : Type 0 where
   pub is : (rs : List Root) → RootsAt rs table first n → n < length spans → lineLength ≤ length w → oldOf r s spans′ n ≡ oldListing names rs s

@@ -28,7 +28,7 @@ pub enum Reached {
     Fault(u32),
 }
 
-// The row of a node line behind its number.
+// The row of a node line after its number.
 fn node_row(s: &[u8], from: usize, to: usize, words: &mut [u32]) -> Got
     requires { ⌜ FieldRoom (now s) from to (now words) 0 ⌝ }
     ensures { λ r. ⌜ Row nodeKinds (now (s .entry)) from to 0 (now (words .entry)) (now (words .exit)) r ⌝ }
@@ -228,7 +228,7 @@ fn root_word(table: &[u32], first: u32, i: u32, k: u32) -> u32
     get(table, place(p, k))
 }
 
-// The lines of all roots, from line 2 on, and nothing behind them.
+// The lines of all roots, from line 2 on, and nothing after them.
 fn roots_from(
     s: &[u8],
     spans: &mut [u32],

@@ -487,7 +487,7 @@ pub record Uniting (table₀ : List ℕ) (count first pairs : ℕ) (table : List
   pub stays : Inside table₀ count → Stays table₀ count table
   pub is : {reps : List ℕ} → Forest table₀ count reps → Behind table₀ count first pairs → United table₀ count first pairs table reps i
 
--- a pair is read behind the parents, where no cell changes
+-- a pair is read after the parents, where no cell changes
 pair-kept : {a b : List ℕ} {count first pairs : ℕ} → Stays a count b → Behind a count first pairs → (i : ℕ) → i < pairs → pairAt b (first + i) ≡ pairAt a (first + i)
 pair-kept {a} {b} {count} {first} s h i lt =
     let begin : cell b (first + i) ≡ cell a (first + i) = s .kept (first + i) (omega (arith, h .places)) in

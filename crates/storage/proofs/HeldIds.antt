@@ -48,7 +48,7 @@ held-none work h = record { count = refl; holds = holds-none work h }
 pub held-ext : {work work′ xs : List ℕ} {h n : ℕ} → HeldList work h n xs → ((k : ℕ) → h ≤ k → k < h + length xs → cell work′ k ≡ cell work k) → HeldList work′ h n xs
 held-ext {work} {work′} {xs} {h} g e = record { count = g .count; holds = record { is = run-ext (cell work′) (cell work) h (length xs) e ∙ g .holds .is } }
 
--- one more behind them
+-- one more after them
 held-put : {work xs : List ℕ} {h k : ℕ} (x : ℕ) → HeldList work h k xs → h + length xs < length work → HeldList (set work (h + k) x) h (k + 1) (xs ++ (x ∷ []))
 held-put {work} {xs} {h} {k} x g lt =
     let c = g .count in

@@ -150,7 +150,7 @@ module _ {work₀ : List ℕ} {h n : ℕ} where
       first-below : b < count
       first-below = let size = g .count in let z = under-at count bs i under (omega arith) in let y = first-item in omega arith
 
-      -- a cell that is neither the mark nor the place behind those held
+      -- a cell that is neither the mark nor the place after those held
       alike : (j : ℕ) → (j ≡ seenAt + b → ⊥) → (j ≡ h + k → ⊥) → cell work′ j ≡ cell work j
       alike j m o = put .is .others j o ∙ getD-set-other work (seenAt + b) j 1 0 m
 

@@ -23,15 +23,10 @@ use Rattle.lang_ty.specs.declared.arena.Pass.{Pass}
 use Rattle.lang_ty.specs.declared.arena.Given.{Given}
 use Rattle.lang_ty.specs.Nodes.{highest, Interned, Top, Written}
 use Rattle.lang_ty.specs.Sets.{Fields, Dyns, Optionals}
-use Rattle.lang_ty.proofs.Rows.{Copying, copied, copying-more, written-none, written-more, written-list, written-both, stored-row}
+use Rattle.lang_ty.proofs.Rows.{written-none, written-more, written-list, written-both, stored-row}
 use Rattle.storage.specs.Sets.{retypeFields, retypeDyn, retyped, PutsTypes, PutsDyn, StoresSet}
 use Rattle.cells.specs.Placed.{Holds, Under}
 use mathlib.Core.Option.{Option, none, some}
-
--- `copy_words` at word i
-pub word-copied : {w₀ w w′ from : List ℕ} {t a n i p o v : ℕ} → w′ ≡ set w p v → p ≡ t + i → v ≡ cell from o → o ≡ a + i → Copying t w₀ from a n w i → i < n
-    → Copying t w₀ from a n w′ (i + 1)
-word-copied put place read from c lt = copying-more c lt (copied place from read put)
 
 -- `put_types` at field i
 pub record Putting (w₀ : List ℕ) (a n : ℕ) (held : List ℕ) (h : ℕ) (w : List ℕ) (i : ℕ) : Type 0 where

@@ -72,7 +72,7 @@ pairAt table i = record { first = cell table (cell table i + 1); second = cell t
 abbrev pub pairsIn : List ℕ → ℕ → ℕ → List Pair
 pairsIn table first n = run (pairAt table) first n
 
--- the pairs lie behind the parents
+-- the pairs lie after the parents
 pub record Behind (table : List ℕ) (count first pairs : ℕ) : Type 0 where
   pub places : count ≤ first
   pub rows : (i : ℕ) → i < pairs → count ≤ cell table (first + i)

@@ -36,7 +36,7 @@ pub record HeldList (work : List ℕ) (h n : ℕ) (xs : List ℕ) : Type 0 where
 abbrev pub only : Bool → ℕ → List ℕ
 only kept x = if kept (λ _. x ∷ []) (λ _. [])
 
--- b put behind the k ids held, if it is kept; no other cell changes
+-- b put after the k ids held, if it is kept; no other cell changes
 pub record HoldsIf (work : List ℕ) (h k b : ℕ) (kept : Bool) (work′ : List ℕ) (r : ℕ) : Type 0 where
   pub others : (j : ℕ) → (j ≡ h + k → ⊥) → cell work′ j ≡ cell work j
   pub is : {xs : List ℕ} → HeldList work h k xs → h + length xs < length work → length xs < 4294967295 → HeldList work′ h r (xs ++ only kept b)
@@ -66,7 +66,7 @@ pub record Deduplicated (work : List ℕ) (h : ℕ) (bs work′ : List ℕ) (r :
   pub list : HeldList work′ h r (runs.deduplicated bs)
   pub kept : (k : ℕ) → k < h → cell work′ k ≡ cell work k
 
--- b put behind the k ids held, if it was not marked as seen; it is marked
+-- b put after the k ids held, if it was not marked as seen; it is marked
 pub record HoldsFirst (work : List ℕ) (h k b : ℕ) (work′ : List ℕ) (r : ℕ) : Type 0 where
   pub is : HoldsIf (setAt work (seenAt + b) 1) h k b (eqb (cell work (seenAt + b)) 0) work′ r
 

@@ -15,18 +15,18 @@ use Rattle.lang_ty.specs.Sets.{SetAt}
 use Rattle.storage.specs.declared.given.Canon.{Canon}
 use Rattle.cells.specs.Placed.{Holds, Under}
 
--- a list in a row: its length stands at l, and its numbers behind that
+-- a list in a row: its length stands at l, and its numbers after that
 pub record ListAt (w : List ℕ) (l : ℕ) (xs : List ℕ) : Type 0 where
   pub count : cell w l ≡ length xs
   pub holds : Holds w (suc l) xs
   pub fits : suc l + length xs ≤ 4294967295
 
--- the lists of a variable stand one behind the other
+-- the lists of a variable stand one after the other
 pub record BoundsAt (w : List ℕ) (v : ℕ) (l u : List ℕ) : Type 0 where
   pub lowers : ListAt w v l
   pub uppers : ListAt w (suc v + length l) u
 
--- what stands behind the kind of an entry whose row begins at a
+-- what stands after the kind of an entry whose row begins at a
 abbrev pub RestAt : List ℕ → ℕ → Entry → Type 0
 RestAt w a (var l u) = BoundsAt w (suc a) l u
 RestAt w a (prim c) = cell w (a + 1) ≡ c
@@ -45,7 +45,7 @@ pub record EntryAt (w : List ℕ) (a : ℕ) (e : Entry) : Type 0 where
   pub fits : a + 2 ≤ 4294967295
   pub rest : RestAt w a e
 
--- where entry id's row begins is told at base + id, behind the facts, and its ids are entries
+-- where entry id's row begins is told at base + id, after the facts, and its ids are entries
 pub record Reads (table : List ℕ) (c : Canon) (t : Reader) : Type 0 where
   pub first : rowsAt ≤ c .base
   pub behind : (id : ℕ) → id < c .count → rowsAt ≤ cell table (c .base + id)

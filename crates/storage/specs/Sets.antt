@@ -28,13 +28,13 @@ abbrev pub retyped : Attr → List ℕ → Attr
 retyped t xs =
     record { fields = retypeFields (t .fields) xs; dyn = retypeDyn (t .dyn) (cell xs (length (t .fields))); isOpen = t .isOpen; optional = t .optional }
 
--- n numbers held from h on, put two apart from the second cell behind a on; no other cell changes
+-- n numbers held from h on, put two apart from the second cell after a on; no other cell changes
 pub record PutsTypes (w : List ℕ) (a n : ℕ) (held : List ℕ) (h : ℕ) (w′ : List ℕ) : Type 0 where
   pub same-length : length w′ ≡ length w
   pub is : (i : ℕ) → i < n → 2 * n ≤ 4294967295 → a + 2 * i + 2 < length w → cell w′ (a + 2 * i + 2) ≡ cell held (h + i)
   pub other : (k : ℕ) → 2 * n ≤ 4294967295 → ((i : ℕ) → i < n → k ≡ a + 2 * i + 2 → ⊥) → cell w′ k ≡ cell w k
 
--- the number held behind n others, put behind the n fields of the set at a where there is a dyn
+-- the number held after n others, put after the n fields of the set at a where there is a dyn
 pub record PutsDyn (w : List ℕ) (a n dyns : ℕ) (held : List ℕ) (h : ℕ) (w′ : List ℕ) : Type 0 where
   pub none : dyns ≡ 0 → w′ ≡ w
   pub some : (dyns ≡ 0 → ⊥) → 2 * n + 2 ≤ 4294967295 → w′ ≡ set w (a + (2 * n + 2)) (cell held (h + n))

@@ -98,7 +98,7 @@ pub fn is_atom(table: &[u32], c: Canon, id: u32) -> bool
     kind == EntryKind::PRIMITIVE
 }
 
-// The lower bounds of the variable at v: their number stands there, and they behind it. The upper bounds stand behind them alike.
+// The lower bounds of the variable at v: their number stands there, and they after it. The upper bounds stand after them alike.
 pub fn uppers(table: &[u32], v: u32) -> u32
     ensures { λ r. ⌜ Uppers (now (table .entry)) v r ⌝ }
 {

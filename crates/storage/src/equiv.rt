@@ -1,5 +1,5 @@
 // EquivDsu: the representatives of ids that pairs join. The lent slice holds each id's parent from place 0 on, at the end its representative;
-// the pairs lie behind the parents.
+// the pairs lie after the parents.
 use cells::at;
 use cells::get;
 use cells::place;

@@ -42,7 +42,7 @@ fn is_wanted(table: &[u32], c: Canon, which: Which, b: u32) -> bool
     }
 }
 
-// b put behind the k cells held from h on, if it is to be kept; how many there are then.
+// b put after the k cells held from h on, if it is to be kept; how many there are then.
 fn hold_if(work: &mut [u32], h: u32, k: u32, b: u32, kept: bool) -> u32
     ensures { λ r. ⌜ HoldsIf (now (work .entry)) h k b kept (now (work .exit)) r ⌝ }
 {
@@ -80,7 +80,7 @@ fn forget(work: &mut [u32], h: u32, n: u32)
     }
 }
 
-// b put behind the k cells held from h on, if it was not seen before; it is marked as seen.
+// b put after the k cells held from h on, if it was not seen before; it is marked as seen.
 fn hold_first(work: &mut [u32], h: u32, k: u32, b: u32) -> u32
     ensures { λ r. ⌜ HoldsFirst (now (work .entry)) h k b (now (work .exit)) r ⌝ }
 {

@@ -13,17 +13,6 @@ ghost use Rattle.cells.specs.Part.{part};
 ghost use Rattle.lang_ty.specs.Nodes.{Written};
 ghost use Rattle.storage.specs.Sets.{PutsTypes, PutsDyn, StoresSet};
 
-// The n words of the table from a on, copied to t.
-fn copy_words(table: &[u32], a: u32, words: &mut [u32], t: u32, n: u32)
-    ensures { λ _. ⌜ Written t (now (words .entry)) (now (words .exit)) (part (now (table .entry)) a n) ⌝ }
-{
-    let mut i = 0;
-    while i < n {
-        put(words, place(t, i), get(table, place(a, i)));
-        i += 1;
-    }
-}
-
 // The answers of the n fields of the set at a, held from h on, put in place of their ids.
 fn put_types(words: &mut [u32], a: u32, n: u32, held: &[u32], h: u32)
     ensures { λ _. ⌜ PutsTypes (now (words .entry)) a n (now (held .entry)) h (now (words .exit)) ⌝ }
@@ -56,7 +45,7 @@ pub fn store_set(table: &[u32], a: u32, arena: &mut [u32], held: &[u32], h: u32,
     let t = arena::top(arena, q);
     let b = add(t, 1);
     set(arena, t, OutputTy::ATTR_SET);
-    copy_words(table, a, arena, b, len);
+    arena::copy(arena, b, table, a, len);
     put_types(arena, b, n, held, h);
     put_dyn(arena, b, n, d, held, h);
     arena::intern(arena, q, add(len, 1), add(two, k))

@@ -1,4 +1,4 @@
--- The order of the two nodes is the rules', and only Greater is behind.
+-- The order of the two nodes is the rules', and only Greater is after.
 use Rattle.factor.proofs.Factors.{behind-less, behind-equal, behind-greater}
 use borrow.Author.Needs.{needs}
 use Rattle.factor.proofs.is_behind.Statement.{statement}

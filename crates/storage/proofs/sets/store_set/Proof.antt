@@ -11,8 +11,8 @@ returns c =
     let add6 = add7 .before in
     let put-dyn = add6 .before .before .before .before in
     let put-types = put-dyn .before .before .before .before in
-    let copy-words = put-types .before .before .before .before in
-    let at-set = copy-words .before .before .before .before in
+    let copy = put-types .before .before .before .before in
+    let at-set = copy .before .before .before .before in
     let add5 = at-set .before .before in
     let top = add5 .before in
     let add4 = top .before .before in
@@ -23,7 +23,7 @@ returns c =
     let dyns = optionals .before in
     let fields = dyns .before in
     stores-set (fields .fields .ensures) (dyns .dyns .ensures) (optionals .optionals .ensures) (add .add .ensures) (add2 .add2 .ensures) (add3 .add3 .ensures)
-    (add4 .add4 .ensures) (top .top .ensures) (add5 .add5 .ensures) (at-set .set .ensures) (copy-words .copy-words .ensures) (put-types .put-types .ensures)
+    (add4 .add4 .ensures) (top .top .ensures) (add5 .add5 .ensures) (at-set .set .ensures) (copy .copy .ensures) (put-types .put-types .ensures)
     (put-dyn .put-dyn .ensures) (add6 .add6 .ensures) (add7 .add7 .ensures) (intern .intern .ensures)
 
 pub store-set-spec : {M : Type 1} → statement M
