@@ -31,7 +31,8 @@ use Rattle.composites.specs.declared.binary.Try.the-variants.{First, Aga
 use Rattle.composites.specs.declared.binary.Tried.{Tried}
 use Rattle.composites.specs.declared.binary.Tried.the-variants.{Node as NodeT, Contradiction as ContradictionT, Refused as RefusedT}
 use Rattle.composites.specs.Places.{Visited, FirstIs, Tries, TriesInter}
-use Rattle.composites.specs.Lists.{Soundly, Leads, Steps, Flattens, WithoutFillers, TopIfEmptied, AsTried, SettlesListed, OrFirst, FirstMember, NormalizesInter, interEnd, SettlesInter, RestsInter, TriesMembers, FirstTried, interTested, ChecksInter}
+use Rattle.composites.specs.Lists.{Soundly, Leads, Steps, Flattens, WithoutFillers, TopIfEmptied, AsTried, SettlesListed, OrFirst, FirstMember, NormalizesInter}
+use Rattle.composites.specs.Lists.{interEnd, SettlesInter, RestsInter, TriesMembers, FirstTried, interTested, ChecksInter}
 use Rattle.composites.proofs.Settled.{bind-both, bind-of, Way, stores-of, answers-of, goes-on, stops, taken-nodes}
 use Rattle.composites.proofs.NormalBounds.{soundly-step, leads-step, leads-now, visited-soundly}
 

@@ -33,13 +33,17 @@ use Rattle.members.specs.declared.lists.AtMostOne.{AtMostOne}
 use Rattle.members.specs.declared.lists.AtMostOne.the-variants.{Refused as RefusedP}
 use Rattle.members.specs.declared.lists.Grown.{Grown}
 use Rattle.members.specs.declared.lists.Grown.the-variants.{On as OnG, Refused as RefusedG}
-use Rattle.members.specs.Lists.{Few, Lists, Taken, Makes, Tests, Gives, AnswersFlow, Answers, Runs, Asks, Refuses, Contains, Beside, KeepsIf, MembersOf, Gathered, ofKind, sift, Soles, AnswersGrown, Grows, Joined, AsListed, firstOf, Pairs}
+use Rattle.members.specs.Lists.{Few, Lists, Taken, Makes, Tests, Gives, AnswersFlow, Answers, Runs, Asks, Refuses, Contains, Beside, KeepsIf, MembersOf, Gathered}
+use Rattle.members.specs.Lists.{ofKind, sift, Soles, AnswersGrown, Grows, Joined, AsListed, firstOf, Pairs}
 use Rattle.members.specs.Flattens.{Listing}
 use Rattle.factor.specs.declared.Wanted.{Wanted}
 use Rattle.factor.specs.declared.Wanted.the-variants.{InAllOthers, NotAmong}
-use Rattle.factor.specs.Factors.{hasMember, inOthers, picked, Picks, Remains, AnswersMore, Leaves, behind, Placed, PutIn, Inserts, Marked, SolesAny, beside, FactorsParts, afterRests, FactorsRests, FactorsUnions, FactorsOne}
+use Rattle.factor.specs.Factors.{hasMember, inOthers, picked, Picks, Remains, AnswersMore, Leaves, behind, Placed, PutIn, Inserts, Marked, SolesAny, beside}
+use Rattle.factor.specs.Factors.{FactorsParts, afterRests, FactorsRests, FactorsUnions, FactorsOne}
 use Rattle.laws.proofs.Filtering.{under-both, under-most, any-here, any-more, any-done}
-use Rattle.members.proofs.Gathered.{Tried, Sifting, sifting-start, sifting-more, sifting-done, Searching, searching-start, searching-here, searching-more, searching-done, few-lists, few-at, few-below, gathered-none, gathered-few, gathered-list, taken-list, alone, listed, Searched, all-not, wraps-union, wraps-intersection, refuses}
+use Rattle.members.proofs.Gathered.{Tried, Sifting, sifting-start, sifting-more, sifting-done, Searching, searching-start, searching-here, searching-more}
+use Rattle.members.proofs.Gathered.{searching-done, few-lists, few-at, few-below, gathered-none, gathered-few, gathered-list, taken-list, alone, listed, Searched}
+use Rattle.members.proofs.Gathered.{all-not, wraps-union, wraps-intersection, refuses}
 use Rattle.members.proofs.Flattened.{by-length}
 use Rattle.members.proofs.Negated.{arena-pass}
 use Rattle.members.proofs.Partway.{Loops, Partway, partway-start, partway-more, partway-no, partway-done}

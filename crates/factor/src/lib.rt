@@ -23,7 +23,8 @@ use members::lists::sole;
 ghost use Rattle.rules.specs.Members.{factor-shared-from-intersection};
 ghost use Rattle.rules.specs.Order.{sort};
 ghost use Rattle.members.specs.Lists.{Makes, Tests, Runs, Asks, Pairs, Beside, firstOf};
-ghost use Rattle.factor.specs.Factors.{hasMember, inOthers, picked, Picks, Remains, Leaves, behind, Placed, PutIn, Inserts, Marked, SolesAny, FactorsParts, FactorsRests, FactorsUnions, FactorsOne};
+ghost use Rattle.factor.specs.Factors.{hasMember, inOthers, picked, Picks, Remains, Leaves, behind, Placed, PutIn, Inserts, Marked, SolesAny, FactorsParts};
+ghost use Rattle.factor.specs.Factors.{FactorsRests, FactorsUnions, FactorsOne};
 
 // Whether every union of the list but the first has the member x.
 fn in_all_others(arena: &[u32], s: &[u32], n: u32, x: u32) -> bool

@@ -94,7 +94,8 @@ module _ {table : List ℕ} {c : Canon} {free : ℕ} {p : runs.Pass} {t : Reader
 
   -- the turn at id b
   turn : {b : ℕ} → i < n → b ≡ getD bs i 0 → visited (visit free p t) first pol bs st
-      ≡ bind (bind (visit free p t b (sideOf i first pol) (mid .now)) (λ y z. bind (each (λ (d : ℕ). visit free p t d pol) (drop (suc i) bs) z) (λ xs. give (y ∷ xs)))) (λ zs. give (part work h i ++ zs))
+      ≡ bind (bind (visit free p t b (sideOf i first pol) (mid .now))
+      (λ y z. bind (each (λ (d : ℕ). visit free p t d pol) (drop (suc i) bs) z) (λ xs. give (y ∷ xs)))) (λ zs. give (part work h i ++ zs))
   turn lt e =
       let z = held .count in
       mid .is

@@ -14,7 +14,9 @@ use Rattle.rules.specs.Plain.{empty, contains, addNew, both}
 use Rattle.rules.specs.Table.{Entry, var, prim, tyvar, list, fn, set as setEntry, neg, named, inter, union, frozen, kids}
 use Rattle.rules.specs.Types.{State, Out, ok, no, Run, bind, _>>=_, give, flip}
 use Rattle.rules.specs.Members.{addAll, each}
-use Rattle.rules.specs.Canonicalizer.{Reader, Visit, variable, addBit, note, concreteOf, flattened, compositeKind, deduplicated, expand-bounds, isVariable, isAtom, lowers, uppers, beginList, began, begin, expand-bounds-empty-fallback, expansion, boundsOf, variableRule, namedBound, canonicalize-inner, visit}
+use Rattle.rules.specs.Canonicalizer.{Reader, Visit, variable, addBit, note, concreteOf, flattened, compositeKind, deduplicated, expand-bounds, isVariable, isAtom}
+use Rattle.rules.specs.Canonicalizer.{lowers, uppers, beginList, began, begin, expand-bounds-empty-fallback, expansion, boundsOf, variableRule, namedBound}
+use Rattle.rules.specs.Canonicalizer.{canonicalize-inner, visit}
 use Rattle.rules.specs.Canonicalizer as runs
 use Rattle.laws.specs.Sound.{Tabled}
 use Rattle.rules.specs.declared.Polarity.{Polarity}
@@ -45,7 +47,8 @@ use Rattle.composites.specs.declared.lists.Settled.the-variants.{Node as NodeS,
 use Rattle.composites.specs.Places.{Settles, boundsEnd, Normalizes}
 use Rattle.lang_check.specs.Cycle.{Keyed, Poised, KeptBelow, Answers, AnswersHeld, AnswersGathered, visited, Visits, Each, Inner, Gathered, Expands, FallsBackTo, IsCut}
 use Rattle.lang_check.proofs.Answered.{goes-visited, knows-given, poised-roomy, visited-held}
-use Rattle.lang_check.proofs.Poised.{poised-firm, poised-mover, poised-entry, poised-under, poised-moved, poised-place, poised-slice, keyed-cells, keyed-later, kept-both, answers-out, answers-stored}
+use Rattle.lang_check.proofs.Poised.{poised-firm, poised-mover, poised-entry, poised-under, poised-moved, poised-place, poised-slice, keyed-cells, keyed-later}
+use Rattle.lang_check.proofs.Poised.{kept-both, answers-out, answers-stored}
 use Rattle.cells.specs.Placed.{Under}
 
 -- a visit of all in one polarity
@@ -136,7 +139,8 @@ module _ {table : List ℕ} {c : Canon} {w work : List ℕ} {free h : ℕ} {q : 
             let o = visited v pol pol (deduplicated bs) st in
             let a = ea .is po1 on (d .list) u1 in
             let e = nz .is o (knows-given (po .knows)) (visited-held (visited (visit free p t) pol pol (deduplicated bs) st) f po1 size2
-            (goes-visited p t (po .tabled) (visit free p t) (poised-mover free po) pol pol (deduplicated bs) st (poised-under (deduplicated bs) po u1) (poised-firm po on)) a .visits) (poised-roomy po1 size2) in
+            (goes-visited p t (po .tabled) (visit free p t) (poised-mover free po) pol pol (deduplicated bs) st (poised-under (deduplicated bs) po u1)
+            (poised-firm po on)) a .visits) (poised-roomy po1 size2) in
             gathers-by p pol o h work work1 work2 work3 behind (d .kept) (nz .kept) (λ (rest : Run ℕ). expand-bounds p v rest bs pol st) (expand-visited p v bs pol st) f r a e;
       }
 

@@ -23,7 +23,8 @@ use Rattle.lang_ty.specs.Nodes.{Answers as Stores, Stored as StoredRow}
 use Rattle.lang_ty.proofs.Stores.{answers-of, stored-bottom, stored-primitive, stored-list, stored-lambda, stored-named}
 use Rattle.storage.specs.declared.given.Canon.{Canon}
 use Rattle.storage.specs.declared.entries.Entry.{Entry as Read}
-use Rattle.storage.specs.declared.entries.Entry.the-variants.{Variable, Primitive as PrimitiveE, TyVar as TyVarE, List as ListE, Lambda as LambdaE, AttrSet as AttrSetE, Neg as NegE, Named as NamedE, Inter as InterE, Union as UnionE, Frozen as FrozenE}
+use Rattle.storage.specs.declared.entries.Entry.the-variants.{Variable, Primitive as PrimitiveE, TyVar as TyVarE, List as ListE, Lambda as LambdaE}
+use Rattle.storage.specs.declared.entries.Entry.the-variants.{AttrSet as AttrSetE, Neg as NegE, Named as NamedE, Inter as InterE, Union as UnionE, Frozen as FrozenE}
 use Rattle.storage.specs.Sets.{StoresSet}
 use Rattle.storage.specs.Entries.{ReadAs}
 use Rattle.storage.specs.Helds.{heldKids}
@@ -85,7 +86,8 @@ abbrev others : List ℕ
 others = 0 ∷ 4 ∷ 5 ∷ 8 ∷ 9 ∷ 10 ∷ []
 
 -- of the others a single entry is a variable, an intersection or frozen, of which nothing is made
-refused-one : {w₀ : List ℕ} {en : Entry} (x : Read) → OneOf others (tagOf the-type x) → ReadAs w₀ x en → Single en → (p : runs.Pass) (pol : Polarity) (xs : List ℕ) (st : State) → made p pol en xs st ≡ no 5
+refused-one : {w₀ : List ℕ} {en : Entry} (x : Read) → OneOf others (tagOf the-type x) → ReadAs w₀ x en → Single en
+    → (p : runs.Pass) (pol : Polarity) (xs : List ℕ) (st : State) → made p pol en xs st ≡ no 5
 refused-one (Variable v) m read one p pol xs st = ap (λ (y : Entry). made p pol y xs st) (read .is .is)
 refused-one (PrimitiveE a) m read one p pol xs st = absurd (miss others 1 tt m)
 refused-one (TyVarE a) m read one p pol xs st = absurd (miss others 2 tt m)

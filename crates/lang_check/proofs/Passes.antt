@@ -131,7 +131,8 @@ module _ {table₀ work : List ℕ} {table table′ : List ℕ} {found found′ 
       let read : (k : ℕ) → cell table′ k ≡ cell (set table (preservedAt + i) 1) k = λ k. ap (λ (l : List ℕ). cell l k) at in
       let other : (k : ℕ) → (k ≡ preservedAt + i → ⊥) → cell table′ k ≡ cell table k = λ k ne. read k ∙ getD-set-other table (preservedAt + i) k 1 0 ne in
       record {
-        is = f ∙ ap (λ (y : Bool). y || true) (d .is) ∙ ap (λ (y : Bool). any isBoth (part work bitsAt i) || y) e ∙ sym (any-snoc (part work bitsAt i) (cell work (bitsAt + i))) ∙ ap (any isBoth) (sym (run-snoc (cell work) bitsAt i));
+        is = f ∙ ap (λ (y : Bool). y || true) (d .is) ∙ ap (λ (y : Bool). any isBoth (part work bitsAt i) || y) e
+            ∙ sym (any-snoc (part work bitsAt i) (cell work (bitsAt + i))) ∙ ap (any isBoth) (sym (run-snoc (cell work) bitsAt i));
         seen = λ v l r z.
             ⊎-elim (λ (q : v ≡ i). read (preservedAt + v) ∙ ap (λ (j : ℕ). cell (set table (preservedAt + i) 1) (preservedAt + j)) q ∙ getD-set-same table (preservedAt + i) 1 0 (omega arith))
             (λ (q : v < i). other (preservedAt + v) (λ y. omega arith) ∙ d .seen v q r z) (eq-or-lt-of-le (omega arith));
@@ -144,7 +145,8 @@ module _ {table₀ work : List ℕ} {table table′ : List ℕ} {found found′ 
       let same : table′ ≡ table = left refl in
       let read : (k : ℕ) → cell table′ k ≡ cell table k = λ k. ap (λ (l : List ℕ). cell l k) same in
       record {
-        is = f ∙ ap (λ (y : Bool). y || false) (d .is) ∙ ap (λ (y : Bool). any isBoth (part work bitsAt i) || y) e ∙ sym (any-snoc (part work bitsAt i) (cell work (bitsAt + i))) ∙ ap (any isBoth) (sym (run-snoc (cell work) bitsAt i));
+        is = f ∙ ap (λ (y : Bool). y || false) (d .is) ∙ ap (λ (y : Bool). any isBoth (part work bitsAt i) || y) e
+            ∙ sym (any-snoc (part work bitsAt i) (cell work (bitsAt + i))) ∙ ap (any isBoth) (sym (run-snoc (cell work) bitsAt i));
         seen = λ v l r z.
             ⊎-elim (λ (q : v ≡ i). true-false (sym z ∙ ap (λ (m : ℕ). isBoth (cell work (bitsAt + m))) q ∙ sym e))
             (λ (q : v < i). read (preservedAt + v) ∙ d .seen v q r z) (eq-or-lt-of-le (omega arith));
@@ -236,7 +238,8 @@ abbrev pub again : Canon → ℕ → Canon
 again c ops = record { count = c .count; base = c .base; budget = c .budget; spent = ops; functor = c .functor }
 
 -- the facts with the set preserved
-reps-kept : {table table′ : List ℕ} {c d : Canon} {p p′ : runs.Pass} → d .count ≡ c .count → c .count ≤ mostEntries → ((id : ℕ) → p′ .rep id ≡ p .rep id) → ((k : ℕ) → k < preservedAt → cell table′ k ≡ cell table k)
+reps-kept : {table table′ : List ℕ} {c d : Canon} {p p′ : runs.Pass} → d .count ≡ c .count → c .count ≤ mostEntries → ((id : ℕ) → p′ .rep id ≡ p .rep id)
+    → ((k : ℕ) → k < preservedAt → cell table′ k ≡ cell table k)
     → Reps table c p → Reps table′ d p′
 reps-kept {table} {table′} {c} {d} {p} {p′} n few same kept r =
     record {
@@ -291,7 +294,9 @@ module _ {table : List ℕ} {c : Canon} {w work : List ℕ} {id : ℕ} {pol : Po
                   nodes = st .nodes;
                   is =
                       canonicalize-is p t id pol ∙ ap (afterFirst p t id pol) (a .is)
-                      ∙ ap (λ (b : Bool). if b (λ _. afterSecond (st .ops) (st .sorted) (pass (withSet p st) t id pol)) (λ _. shown (record { passes = 1; operations = st .ops; sorted = st .sorted; bailed = st .bailed; nodes = st .nodes; root = x }))) (found-is kn tb lent lt ∙ z)
+                      ∙ ap (λ (b : Bool). if b (λ _. afterSecond (st .ops) (st .sorted) (pass (withSet p st) t id pol))
+                      (λ _. shown (record { passes = 1; operations = st .ops; sorted = st .sorted; bailed = st .bailed; nodes = st .nodes; root = x })))
+                      (found-is kn tb lent lt ∙ z)
                       ∙ ap (λ (n : ℕ). shown (record { passes = 1; operations = n; sorted = st .sorted; bailed = st .bailed; nodes = st .nodes; root = x })) (a .stands .ops)
                       ∙ ap (λ (b : Bool). shown (record { passes = 1; operations = q .ops; sorted = b; bailed = st .bailed; nodes = st .nodes; root = x })) (a .stands .sorted)
                       ∙ ap (λ (b : Bool). shown (record { passes = 1; operations = q .ops; sorted = q .sorted; bailed = b; nodes = st .nodes; root = x })) (a .stands .bailed);
@@ -346,7 +351,9 @@ module _ {table : List ℕ} {c : Canon} {w work : List ℕ} {id : ℕ} {pol : Po
                 let most = pass-most kn tb lt pol x st (a .is) in
                 subst (λ (y : runs.Answer). RootIs y w2 r)
                 (sym (canonicalize-is p t id pol ∙ ap (afterFirst p t id pol) (a .is)
-                ∙ ap (λ (b : Bool). if b (λ _. afterSecond (st .ops) (st .sorted) o) (λ _. shown (record { passes = 1; operations = st .ops; sorted = st .sorted; bailed = st .bailed; nodes = st .nodes; root = x }))) (found-is kn tb lent lt ∙ z)
+                ∙ ap (λ (b : Bool). if b (λ _. afterSecond (st .ops) (st .sorted) o)
+                (λ _. shown (record { passes = 1; operations = st .ops; sorted = st .sorted; bailed = st .bailed; nodes = st .nodes; root = x })))
+                (found-is kn tb lent lt ∙ z)
                 ∙ ap (λ (n : ℕ). afterSecond n (st .sorted) o) (a .stands .ops) ∙ ap (λ (b : Bool). afterSecond (q .ops) b o) (a .stands .sorted)))
                 (second .is o (pass-stores kn2 tb2 lt pol g2 b) (let n = a .stands .ops in omega arith) (pass-most kn2 tb2 lt pol));
             kept = λ un k. by-place un k (ltb k preservedAt) refl;

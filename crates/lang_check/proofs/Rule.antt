@@ -23,7 +23,8 @@ use Rattle.lang_ty.specs.declared.arena.Given.{Given}
 use Rattle.lang_ty.specs.declared.arena.Given.the-variants.{Node as NodeG, Refused}
 use Rattle.storage.specs.declared.given.Canon.{Canon}
 use Rattle.storage.specs.declared.entries.Entry.{Entry as Read}
-use Rattle.storage.specs.declared.entries.Entry.the-variants.{Variable, Primitive as PrimitiveE, TyVar as TyVarE, List as ListE, Lambda as LambdaE, AttrSet as AttrSetE, Neg as NegE, Named as NamedE, Inter as InterE, Union as UnionE, Frozen as FrozenE}
+use Rattle.storage.specs.declared.entries.Entry.the-variants.{Variable, Primitive as PrimitiveE, TyVar as TyVarE, List as ListE, Lambda as LambdaE}
+use Rattle.storage.specs.declared.entries.Entry.the-variants.{AttrSet as AttrSetE, Neg as NegE, Named as NamedE, Inter as InterE, Union as UnionE, Frozen as FrozenE}
 use Rattle.storage.specs.Sets.{retypeFields, retypeDyn, retyped}
 use Rattle.storage.specs.Entries.{ReadAs, EntryRead}
 use Rattle.storage.specs.Helds.{heldKids, firstPolarity, HoldsChildren, FirstPolarity}
@@ -253,7 +254,9 @@ module _ {table : List ℕ} {c : Canon} {w work : List ℕ} {free h : ℕ} {q : 
             let po1 = subst (λ (ks : List ℕ). Poised table c work h (length ks) p t st) same po in
             let u : Under (c .count) (heldKids en) = subst (Under (c .count)) same (po .knows .reads .known id lt) in
             let seen : Run (List ℕ) = visited v (firstPolarity en pol) pol (heldKids en) in
-            let rd = visited-held (seen st) f po1 len (goes-visited p t (po .tabled) v (poised-mover free po) (firstPolarity en pol) pol (heldKids en) st (poised-under (heldKids en) po u) (poised-firm po on)) (ch .is read u po1 on) in
+            let rd = visited-held (seen st) f po1 len
+            (goes-visited p t (po .tabled) v (poised-mover free po) (firstPolarity en pol) pol (heldKids en) st (poised-under (heldKids en) po u)
+            (poised-firm po on)) (ch .is read u po1 on) in
             answers-out (sym (rule-made p t v id en pol st k))
             (answers-made seen (made p pol en) st r behind rd (λ xs. keeps-made p pol en xs orderly)
             (ma .is (seen st) (po .knows) read orderly (rd .visits) (record { behind = behind; room = omega arith; small = omega arith })));

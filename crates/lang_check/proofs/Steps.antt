@@ -71,7 +71,8 @@ both-is : (work : List ℕ) (id : ℕ) {k v : ℕ} {r : Bool} → k ≡ bitsAt +
 both-is work id at e is = is .is ∙ ap isBoth (e ∙ ap (cell work) at)
 
 module _ {table work : List ℕ} {id k v : ℕ} {r : Bool} where
-  pub preserves-both : {p : ℕ} {table′ : List ℕ} → k ≡ bitsAt + id → v ≡ cell work k → IsBoth (record { bits = v }) r → r ≡ true → p ≡ preservedAt + id → table′ ≡ set table p 1 → PreservesIf table work id table′ true
+  pub preserves-both : {p : ℕ} {table′ : List ℕ} → k ≡ bitsAt + id → v ≡ cell work k → IsBoth (record { bits = v }) r → r ≡ true → p ≡ preservedAt + id → table′
+      ≡ set table p 1 → PreservesIf table work id table′ true
   preserves-both at e is d here put = record { is = sym d ∙ both-is work id at e is; some = λ _. put ∙ ap (λ (j : ℕ). set table j 1) here; none = λ z. absurd (never z) }
     where
       never : true ≡ false → ⊥

@@ -14,7 +14,7 @@ use Rattle.layout.specs.Layout.{heldAt, seenAt, workLength, bitsAt}
 use Rattle.rules.specs.Plain.{both}
 use Rattle.rules.specs.Table.{kids}
 use Rattle.rules.specs.Types.{State, Out, ok, Run, bind, _>>=_, refuse, sign}
-use Rattle.rules.specs.Canonicalizer.{Reader, variable, count-one, check-budget, exceeds, tick, slot, keyAt, look, work, entered, visit, rule}
+use Rattle.rules.specs.Canonicalizer.{Reader, variable, countOne, checkBudget, exceeds, tick, slot, keyAt, look, work, entered, visit, rule}
 use Rattle.rules.specs.Canonicalizer as runs
 use Rattle.rules.specs.declared.Polarity.{Polarity}
 use Rattle.rules.specs.declared.Polarity.the-variants.{Positive, Negative}
@@ -53,7 +53,7 @@ module _ (p : runs.Pass) (id : ℕ) (pol : Polarity) (w : Run ℕ) (st : State) 
   looked = keyAt (slot id pol) >>= look p id w
 
   abbrev onward : Run ℕ
-  onward = count-one >>= (λ _. check-budget p >>= (λ (over : Bool). if over (λ _. variable p id) (λ _. looked)))
+  onward = countOne >>= (λ _. checkBudget p >>= (λ (over : Bool). if over (λ _. variable p id) (λ _. looked)))
 
   entered-bailed : st .bailed ≡ true → entered p id pol w st ≡ variable p id st
   unfolding entered
@@ -145,7 +145,14 @@ module _ {table : List ℕ} {c : Canon} {w work : List ℕ} {free h : ℕ} {q : 
         is = λ {p} {t} {st} po on lt.
             let f : exceeds p (tick (st .ops)) ≡ true = exceeds-is (po .knows) on one x ∙ b in
             let with : PassWith q (tick (st .ops)) (exceeds p (tick (st .ops))) q2 =
-            record { nodes = two .nodes ∙ one .nodes; cells = two .cells ∙ one .cells; ops = two .ops ∙ one .ops ∙ ap tick (sym (on .ops)); sorted = two .sorted ∙ one .sorted; bailed = two .bailed ∙ sym f } in
+            record {
+              nodes = two .nodes ∙ one .nodes;
+              cells = two .cells ∙ one .cells;
+              ops = two .ops ∙ one .ops ∙ ap tick (sym (on .ops));
+              sorted = two .sorted
+                  ∙ one .sorted;
+              bailed = two .bailed ∙ sym f;
+            } in
             answers-out (sym (visit-is free p t id pol st ∙ entered-over p id pol (ahead free p t id pol) st (on .bailed ∙ e) f))
             (answers-stored h (keeps-variable p id (counted p st)) (keyed-state refl refl (po .keyed)) (v .is (po .knows .reps) (stands-with (st .keys) (st .bits) on with)));
       }
@@ -266,7 +273,8 @@ works-by o n sl {work = work} {work2 = work2} {work3 = work3} (NodeG x q) a ca b
     }
 works-by o n sl (Refused k) a ca below e lt long behind = record { is = ap (cachedOut sl) (a .is) }
 
-module _ {table : List ℕ} {c : Canon} {w work : List ℕ} {free h : ℕ} {q : Pass} {id : ℕ} {pol : Polarity} {w′ : List ℕ} {q1 : Pass} {b : Bool} {sl k : ℕ} {g r : Given} {work1 work2 work3 : List ℕ} where
+module _ {table : List ℕ} {c : Canon} {w work : List ℕ} {free h : ℕ} {q : Pass} {id : ℕ} {pol : Polarity} {w′ : List ℕ} {q1 : Pass} {b : Bool} {sl k : ℕ}
+    {g r : Given} {work1 work2 work3 : List ℕ} where
   -- worked out
   pub visits-works : q .bailed ≡ false → PassWith q (tick (q .ops)) (q .bailed) q1 → Exceeds c q1 b → b ≡ false → Slot id pol sl → k ≡ cell work sl → (k ≡ 1 → ⊥) → k ≤ 1 → (free ≡ 0 → ⊥)
       → work1 ≡ set work sl 1 → Rules table c w work1 (free - 1) h q1 id pol w′ work2 g → length work2 ≡ length work1 → Caches work2 sl g work3 r
@@ -284,7 +292,8 @@ module _ {table : List ℕ} {c : Canon} {w work : List ℕ} {free h : ℕ} {q : 
             let on1 = stands-with (set (st .keys) (slot id pol) 1) (st .bits) on (counted-with e one x z po on) in
             let firm : Firm (p .count) Any st1 = firm-any (pw .steady) (stands-rooted on) in
             let ans = ru .is {st = st1} (subst (λ (l : List ℕ). Poised table c l h (length (kids (t id))) p t st1) (sym first) pw) on1 lt in
-            let went = goes-rule p t (po .tabled) Any any-stays (visit (free - 1) p t) (poised-mover (free - 1) po) id (t id) pol st1 (poised-entry po lt) (po .tabled .known id (poised-entry po lt)) (po .tabled .orderly id (poised-entry po lt)) firm in
+            let went = goes-rule p t (po .tabled) Any any-stays (visit (free - 1) p t) (poised-mover (free - 1) po) id (t id) pol st1 (poised-entry po lt)
+            (po .tabled .known id (poised-entry po lt)) (po .tabled .orderly id (poised-entry po lt)) firm in
             answers-out (sym (visit-looks e one x z po on free id pol 0 key ∙ ap (λ (j : ℕ). ahead j p t id pol (counted p st)) suc-free))
             (subst (λ (y : Given). Answers (cachedOut (slot id pol) (rule p t (visit (free - 1) p t) id (t id) pol st1)) (p .count) w′ work work3 h y) (sym (ca .same))
             (works-by (rule p t (visit (free - 1) p t) id (t id) pol st1) (p .count) (slot id pol) g ans (subst (λ (j : ℕ). Caches work2 j g work3 r) here ca)

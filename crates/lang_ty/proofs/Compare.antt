@@ -230,7 +230,8 @@ module _ {w : List ℕ} {a b l : ℕ} where
           record {
             is = λ {q} {ns} h la lb.
                 g .is
-                ∙ sym (ends (order (length ns) ns) (contents (nodeAt ns a)) (contents (nodeAt ns b)) i (first .is h la) (second .is h lb) (omega arith) (omega arith) (subst (λ (x : ℕ). (x ≡ n) ⊎ (x ≡ m)) z (least .one)))
+                ∙ sym (ends (order (length ns) ns) (contents (nodeAt ns a)) (contents (nodeAt ns b)) i (first .is h la) (second .is h lb) (omega arith)
+                (omega arith) (subst (λ (x : ℕ). (x ≡ n) ⊎ (x ≡ m)) z (least .one)))
                 ∙ c .is h la lb
                 ∙ sym (by-contents one two alike h la lb);
           }

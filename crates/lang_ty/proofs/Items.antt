@@ -14,7 +14,8 @@ use Rattle.rules.specs.Types.{Node, fieldWords, encode, kindOf, members, nodeAt
 use Rattle.rules.specs.Order.{end, num, child, listItems, fieldItems, attrItems, contents}
 use Rattle.rules.specs.Order as rules-order
 use Rattle.laws.proofs.Rows.{attr-words-length, field-words-length, set-fields, set-optional, node-of, by-kind}
-use Rattle.laws.proofs.Ordering.{numbers-less, numbers-equal, numbers-greater, list-items, list-item, list-end, restItems, set-items, set-length, byTurn, field-item, field-end, field-rest, rest-none, rest-dyn, rest-behind, plain-length, number-item, name-item, child-item, one-content, no-content}
+use Rattle.laws.proofs.Ordering.{numbers-less, numbers-equal, numbers-greater, list-items, list-item, list-end, restItems, set-items, set-length, byTurn, field-item}
+use Rattle.laws.proofs.Ordering.{field-end, field-rest, rest-none, rest-dyn, rest-behind, plain-length, number-item, name-item, child-item, one-content, no-content}
 use Rattle.lang_ty.specs.declared.arena.Pass.{Pass}
 use Rattle.lang_ty.specs.declared.arc_ty.Item.{Item}
 use Rattle.lang_ty.specs.declared.arc_ty.Item.the-variants.{End, Num, Child}

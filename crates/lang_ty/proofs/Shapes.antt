@@ -136,7 +136,8 @@ known-low (suc (suc (suc zero))) h = refl
 known-low (suc (suc (suc (suc zero)))) h = refl
 known-low (suc (suc (suc (suc (suc k))))) h =
     lt-leb (suc (suc (suc (suc (suc k))))) 4 (omega arith)
-    ∙ sym (λ i. ne-eqb (suc (suc (suc (suc (suc k))))) 1 (λ e. omega arith) i || ne-eqb (suc (suc (suc (suc (suc k))))) 4 (λ e. omega arith) i || ne-eqb (suc (suc (suc (suc (suc k))))) 2 (λ e. omega arith) i || ne-eqb (suc (suc (suc (suc (suc k))))) 3 (λ e. omega arith) i)
+    ∙ sym (λ i. ne-eqb (suc (suc (suc (suc (suc k))))) 1 (λ e. omega arith) i || ne-eqb (suc (suc (suc (suc (suc k))))) 4 (λ e. omega arith) i || ne-eqb
+    (suc (suc (suc (suc (suc k))))) 2 (λ e. omega arith) i || ne-eqb (suc (suc (suc (suc (suc k))))) 3 (λ e. omega arith) i)
 
 known-out : (k : ℕ) → known k ≡ false → 1 ≤ k → k ≤ 4 → ⊥
 known-out k e a b = let z = leb-false k 4 (known-low k a ∙ e) in omega arith

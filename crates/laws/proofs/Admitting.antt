@@ -14,7 +14,9 @@ use Rattle.cells.proofs.Choices.{by-branch, by-test, true-false}
 use Rattle.rules.specs.Plain.{both}
 use Rattle.rules.specs.Ceilings.{mostText, mostNames, longestName, mostEntries, mostIds}
 use Rattle.rules.specs.Text.{lineFeed, pieces, rowOf}
-use Rattle.rules.specs.Table.{Sections, entryOf, asSet, keysAscend, weight, Table, Reading, nothing, inOrder, addRow, rowWeight, add, over, ascends, Admission, admitted, fault, frozenEntry, admit, sectionOf, inForm, step, kinds, Result, accepted, refused, then, atLine, begun, lines, inRange, known, entryLine, rootLine, inTable, sectionsOf, rootOf, fromSections, tableOf}
+use Rattle.rules.specs.Table.{Sections, entryOf, asSet, keysAscend, weight, Table, Reading, nothing, inOrder, addRow, rowWeight, add, over, ascends, Admission}
+use Rattle.rules.specs.Table.{admitted, fault, frozenEntry, admit, sectionOf, inForm, step, kinds, Result, accepted, refused, then, atLine, begun, lines, inRange}
+use Rattle.rules.specs.Table.{known, entryLine, rootLine, inTable, sectionsOf, rootOf, fromSections, tableOf}
 use Rattle.laws.proofs.ReadLines.{rowWords, ReadEntry, Gives, Long, Formal, Entered, line-entered}
 use mathlib.Core.Option.{Option, none, some}
 

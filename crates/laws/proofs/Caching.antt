@@ -12,7 +12,7 @@ use Rattle.cells.specs.Part.{if, cell}
 use Rattle.rules.specs.Table.{Entry, var, prim, tyvar, list, fn, set, neg, named, inter, union, frozen, kids, entryKind, primEntry}
 use Rattle.rules.specs.Types.{Node, TyVar, Primitive, ListOf, Lambda, AttrSet, Union, Intersection, Named, Neg, Bottom, Top, kindOf, flip, State, ok, Run, _>>=_, refuse, nodeAt, store}
 use Rattle.rules.specs.Members.{negateNode, negateBy, negate-output-ty}
-use Rattle.rules.specs.Canonicalizer.{Pass, Reader, Visit, variable, tick, count-one, exceeds, check-budget, slot, keyAt, isPrim, isAtom, rule, work, look, entered, visit}
+use Rattle.rules.specs.Canonicalizer.{Pass, Reader, Visit, variable, tick, countOne, exceeds, checkBudget, slot, keyAt, isPrim, isAtom, rule, work, look, entered, visit}
 use Rattle.laws.specs.Sound.{Tabled}
 use Rattle.rules.specs.declared.Polarity.{Polarity}
 use Rattle.rules.specs.declared.Polarity.the-variants.{Positive, Negative}
@@ -156,7 +156,7 @@ module _ (p : Pass) (id : ℕ) (pol : Polarity) (w : Run ℕ) (st : State) (x : 
   over-way false h e = look-way (cell (st .keys) (slot id pol)) refl e
 
   bail-way : (b : Bool) → st .bailed ≡ b
-      → if b (λ _. variable p id) (λ _. count-one >>= (λ _. check-budget p >>= (λ (over : Bool). if over (λ _. variable p id) (λ _. keyAt (slot id pol) >>= look p id w)))) st ≡ ok x st′
+      → if b (λ _. variable p id) (λ _. countOne >>= (λ _. checkBudget p >>= (λ (over : Bool). if over (λ _. variable p id) (λ _. keyAt (slot id pol) >>= look p id w)))) st ≡ ok x st′
       → Entered p id pol w st x st′
   bail-way true h e = stopped st h refl e
   bail-way false h e = over-way (exceeds p (tick (st .ops))) refl e

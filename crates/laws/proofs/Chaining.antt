@@ -12,9 +12,13 @@ use Rattle.cells.specs.Part.{if}
 use Rattle.rules.specs.Plain.{any, all, filter, contains, empty, addNew, both}
 use Rattle.rules.specs.Ceilings.{mostMembers}
 use Rattle.rules.specs.Table.{Attr}
-use Rattle.rules.specs.Types.{Node, TyVar, Primitive, ListOf, Lambda, AttrSet, Union, Intersection, Named, Neg, Bottom, Top, kindOf, asAttr, flip, State, Out, ok, no, Run, bind, _>>=_, give, refuse, nodeAt, is, limit, attrSetKind, unionKind}
-use Rattle.rules.specs.Members.{membersAt, innerOf, isConcrete, addAll, flattenOne, flattenInto, flatten-composite, attrOf, attrsOf, merged, merge-attrset-intersection, are-output-types-disjoint, remove-redundant-negations, has-type-contradiction, remove-tautological-pairs, absorb-subsumed-union-members, factorUnions, factor-shared-from-intersection, each}
-use Rattle.rules.specs.Canonicalizer.{Pass, Reader, Visit, variable, dropsNode, should-drop-filler, flattened, compositeKind, settle, topIfEmptied, deduplicated, normalized, expand-bounds, isAtom, uppers, beginList, Begun, began, begin, expand-bounds-empty-fallback, chain, visit}
+use Rattle.rules.specs.Types.{Node, TyVar, Primitive, ListOf, Lambda, AttrSet, Union, Intersection, Named, Neg, Bottom, Top, kindOf, asAttr, flip, State, Out, ok, no}
+use Rattle.rules.specs.Types.{Run, bind, _>>=_, give, refuse, nodeAt, is, limit, attrSetKind, unionKind}
+use Rattle.rules.specs.Members.{membersAt, innerOf, isConcrete, addAll, flattenOne, flattenInto, flatten-composite, attrOf, attrsOf, merged}
+use Rattle.rules.specs.Members.{merge-attrset-intersection, are-output-types-disjoint, remove-redundant-negations, has-type-contradiction, remove-tautological-pairs}
+use Rattle.rules.specs.Members.{absorb-subsumed-union-members, factorUnions, factor-shared-from-intersection, each}
+use Rattle.rules.specs.Canonicalizer.{Pass, Reader, Visit, variable, dropsNode, should-drop-filler, flattened, compositeKind, settle, topIfEmptied, deduplicated}
+use Rattle.rules.specs.Canonicalizer.{normalized, expand-bounds, isAtom, uppers, beginList, Begun, began, begin, expand-bounds-empty-fallback, chain, visit}
 use Rattle.laws.specs.Sound.{Tabled}
 use Rattle.rules.specs.declared.Polarity.{Polarity}
 use Rattle.rules.specs.declared.Polarity.the-variants.{Positive, Negative}

@@ -14,9 +14,19 @@ use Rattle.rules.specs.Ceilings.{mostMembers, mostNodes, mostCells, mostOperati
 use Rattle.rules.specs.Text.{greatest}
 use Rattle.rules.specs.Table.{Field, Attr, Entry, var, prim, tyvar, list, fn, set, neg, named, inter, union, frozen, fieldTypes, fieldKeys, dynIds, kids}
 use Rattle.rules.specs.Order.{sort}
-use Rattle.rules.specs.Types.{Node, TyVar, Primitive, ListOf, Lambda, AttrSet, Union, Intersection, Named, Neg, Bottom, Top, members, asAttr, encode, flip, State, Out, ok, no, Run, bind, _>>=_, give, refuse, ask, cellsOf, keep, store, limit, nodeAt, is, tyVarKind, attrSetKind, unionKind, intersectionKind, bottomKind}
-use Rattle.rules.specs.Members.{membersAt, remove-tautological-pairs, absorb-subsumed-union-members, negatedInners, without, flatten-composite, remove-redundant-negations, has-type-contradiction, spared, takesSome, meetTypes, mergeField, mergeFields, mergeDyn, mergeAttrs, optionalInAll, openIfAll, attrOf, attrsOf, merged, merge-attrset-intersection, sole, simplifyOne, simplifyEach, simplify-union-neg-intersection, markSorted, remainders, factored, factorUnions, factor-shared-from-intersection, each, negateNode, negateBy, negate-output-ty}
-use Rattle.rules.specs.Canonicalizer.{Pass, Reader, Visit, variable, note, hasBailed, count-one, check-budget, slot, keyAt, setKey, concreteOf, flattened, compositeKind, composite, settle, topIfEmptied, deduplicated, normalized, expand-bounds, isVariable, isNamed, beginList, Begun, began, begin, expand-bounds-empty-fallback, chain, expansion, boundsOf, preserving, variableRule, namedBound, canonicalize-inner, fieldsRule, dynRule, firstMember, interNormalized, interRest, turned, interRetry, interRule, unionNormalized, unionRule, rule, work, look, entered, visit, fresh, pass, Answer, Shown, shown, refusedWith, afterSecond, withSet, afterFirst, canonicalize}
+use Rattle.rules.specs.Types.{Node, TyVar, Primitive, ListOf, Lambda, AttrSet, Union, Intersection, Named, Neg, Bottom, Top, members, asAttr, encode, flip, State, Out}
+use Rattle.rules.specs.Types.{ok, no, Run, bind, _>>=_, give, refuse, ask, cellsOf, keep, store, limit, nodeAt, is, tyVarKind, attrSetKind, unionKind}
+use Rattle.rules.specs.Types.{intersectionKind, bottomKind}
+use Rattle.rules.specs.Members.{membersAt, remove-tautological-pairs, absorb-subsumed-union-members, negatedInners, without, flatten-composite}
+use Rattle.rules.specs.Members.{remove-redundant-negations, has-type-contradiction, spared, takesSome, meetTypes, mergeField, mergeFields, mergeDyn, mergeAttrs}
+use Rattle.rules.specs.Members.{optionalInAll, openIfAll, attrOf, attrsOf, merged, merge-attrset-intersection, sole, simplifyOne, simplifyEach}
+use Rattle.rules.specs.Members.{simplify-union-neg-intersection, markSorted, remainders, factored, factorUnions, factor-shared-from-intersection, each, negateNode}
+use Rattle.rules.specs.Members.{negateBy, negate-output-ty}
+use Rattle.rules.specs.Canonicalizer.{Pass, Reader, Visit, variable, note, hasBailed, countOne, checkBudget, slot, keyAt, setKey, concreteOf, flattened}
+use Rattle.rules.specs.Canonicalizer.{compositeKind, composite, settle, topIfEmptied, deduplicated, normalized, expand-bounds, isVariable, isNamed, beginList, Begun}
+use Rattle.rules.specs.Canonicalizer.{began, begin, expand-bounds-empty-fallback, chain, expansion, boundsOf, preserving, variableRule, namedBound, canonicalize-inner}
+use Rattle.rules.specs.Canonicalizer.{fieldsRule, dynRule, firstMember, interNormalized, interRest, turned, interRetry, interRule, unionNormalized, unionRule, rule}
+use Rattle.rules.specs.Canonicalizer.{work, look, entered, visit, fresh, pass, Answer, Shown, shown, refusedWith, afterSecond, withSet, afterFirst, canonicalize}
 use Rattle.laws.specs.Sound.{Tabled}
 use Rattle.rules.specs.declared.Polarity.{Polarity}
 use Rattle.rules.specs.declared.Polarity.the-variants.{Positive, Negative}
@@ -480,7 +490,9 @@ module _ (names : ℕ) (p : Pass) (t : Reader) (b : FormedPass names p t) where
         record { ascend = ap ascending e ∙ f .ascend; named = subst (Under names) (sym e) (f .named); optionals = f .optionals; others = f .others; opens = f .opens }
 
     goes-set : (a : Attr) (pol : Polarity) → Under n (fieldTypes (a .fields) ++ dynIds (a .dyn)) → FormedSet names a
-        → Goes names (fieldsRule v pol (a .fields) >>= (λ (fs : List Field). dynRule v pol (a .dyn) >>= (λ (d : Option ℕ). store (AttrSet (record { fields = fs; dyn = d; isOpen = a .isOpen; optional = a .optional })))))
+        → Goes names (fieldsRule v pol (a .fields) >>=
+        (λ (fs : List Field). dynRule v pol (a .dyn) >>=
+        (λ (d : Option ℕ). store (AttrSet (record { fields = fs; dyn = d; isOpen = a .isOpen; optional = a .optional })))))
     goes-set a pol u f =
         runs-bind names (λ (gs : List Field). fieldKeys gs ≡ fieldKeys (a .fields)) (Any names) (fieldsRule v pol (a .fields)) _
         (runs-types pol (a .fields) (under-front n (fieldTypes (a .fields)) (dynIds (a .dyn)) u))
@@ -555,8 +567,8 @@ module _ (names : ℕ) (p : Pass) (t : Reader) (b : FormedPass names p t) where
   goes-entered id pol w h g =
       goes-bind names hasBailed _ (λ st f. gives f tt)
       (λ bailed. goes-if names bailed _ _ (known-variable id h)
-      (goes-bind names count-one _ (λ st f. gives f tt)
-      (λ _. goes-bind names (check-budget p) _ (λ st f. gives f tt)
+      (goes-bind names countOne _ (λ st f. gives f tt)
+      (λ _. goes-bind names (checkBudget p) _ (λ st f. gives f tt)
       (λ over. goes-if names over (λ _. variable p id) (λ _. keyAt (slot id pol) >>= look p id w) (known-variable id h)
       (goes-bind names (keyAt (slot id pol)) _ (λ st f. gives f tt) (λ k. goes-look id w k h g))))))
 

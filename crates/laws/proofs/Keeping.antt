@@ -13,8 +13,13 @@ use Rattle.rules.specs.Plain.{filter, any, all, contains, ascending, empty}
 use Rattle.rules.specs.Ceilings.{mostMembers, mostNames}
 use Rattle.rules.specs.Table.{Field, Attr, fieldKeys}
 use Rattle.rules.specs.Order.{sort}
-use Rattle.rules.specs.Types.{Node, TyVar, Primitive, ListOf, Lambda, AttrSet, Union, Intersection, Named, Neg, Bottom, Top, State, Out, ok, no, Run, bind, _>>=_, give, refuse, ask, grown, cellsOf, asAttr, nodeAt, is, store, limit, tyVarKind, attrSetKind, unionKind, bottomKind}
-use Rattle.rules.specs.Members.{membersAt, remove-tautological-pairs, absorb-subsumed-union-members, negatedInners, without, flatten-composite, remove-redundant-negations, has-type-contradiction, spared, takesSome, meetTypes, mergeField, mergeFields, mergeDyn, mergeAttrs, optionalInAll, openIfAll, attrOf, attrsOf, merged, merge-attrset-intersection, sole, simplifyOne, simplifyEach, simplify-union-neg-intersection, markSorted, remainders, factored, factorUnions, factor-shared-from-intersection, each, negateNode, negateBy, negate-output-ty}
+use Rattle.rules.specs.Types.{Node, TyVar, Primitive, ListOf, Lambda, AttrSet, Union, Intersection, Named, Neg, Bottom, Top, State, Out, ok, no, Run, bind, _>>=_}
+use Rattle.rules.specs.Types.{give, refuse, ask, grown, cellsOf, asAttr, nodeAt, is, store, limit, tyVarKind, attrSetKind, unionKind, bottomKind}
+use Rattle.rules.specs.Members.{membersAt, remove-tautological-pairs, absorb-subsumed-union-members, negatedInners, without, flatten-composite}
+use Rattle.rules.specs.Members.{remove-redundant-negations, has-type-contradiction, spared, takesSome, meetTypes, mergeField, mergeFields, mergeDyn, mergeAttrs}
+use Rattle.rules.specs.Members.{optionalInAll, openIfAll, attrOf, attrsOf, merged, merge-attrset-intersection, sole, simplifyOne, simplifyEach}
+use Rattle.rules.specs.Members.{simplify-union-neg-intersection, markSorted, remainders, factored, factorUnions, factor-shared-from-intersection, each, negateNode}
+use Rattle.rules.specs.Members.{negateBy, negate-output-ty}
 use Rattle.rules.specs.Canonicalizer.{Pass, variable, concreteOf, flattened, composite, settle, topIfEmptied, normalized, preserving, firstMember, interNormalized, interRest, unionNormalized}
 use Rattle.laws.specs.Sound.{Orderly, OrderlySet, Ordered, cellsIn, Sound, Steady}
 use Rattle.rules.specs.declared.Polarity.{Polarity}
@@ -310,7 +315,9 @@ module _ (f g : Field) (gs : List Field) (rec : (st : State) (hs : List Field) (
       (record { later = d .later; rising = λ r. (d .from (suc (g .key)) lt (r .0), d .rising (r .1)); from = λ a h k. k; under = λ k h u. (u .0, d .under k h (u .1)) })
 
   field-turn : (b c : Bool) → ltb (f .key) (g .key) ≡ b → eqb (f .key) (g .key) ≡ c → (st : State) (hs : List Field) (st′ : State)
-      → if b (λ _. give (f ∷ g ∷ gs)) (λ _. if c (λ _. meetTypes (g .type) (f .type) >>= (λ (x : ℕ). give (record { key = g .key; type = x } ∷ gs))) (λ _. mergeField f gs >>= (λ (hs : List Field). give (g ∷ hs)))) st ≡ ok hs st′
+      → if b (λ _. give (f ∷ g ∷ gs))
+      (λ _. if c (λ _. meetTypes (g .type) (f .type) >>= (λ (x : ℕ). give (record { key = g .key; type = x } ∷ gs)))
+      (λ _. mergeField f gs >>= (λ (hs : List Field). give (g ∷ hs)))) st ≡ ok hs st′
       → Fielded f (g ∷ gs) st hs st′
   field-turn true c p q st hs st′ e = gave (Fielded f (g ∷ gs) st) e (field-first st (ltb-true (f .key) (g .key) p))
   field-turn false true p q st hs st′ e = field-met st hs st′ e

@@ -11,10 +11,15 @@ use Rattle.cells.specs.Part.{if, eqList}
 use Rattle.cells.proofs.Choices.{by-branch, true-false}
 use Rattle.rules.specs.Plain.{any, filter, empty, both}
 use Rattle.rules.specs.Ceilings.{mostKeys}
-use Rattle.rules.specs.Table.{Pair, Root, Field, Entry, var, prim, tyvar, list, fn, set, neg, named, inter, union, frozen, entryOf, fieldTypes, dynIds, kids, Table, joinPairs, upward, representatives, repIn}
+use Rattle.rules.specs.Table.{Pair, Root, Field, Entry, var, prim, tyvar, list, fn, set, neg, named, inter, union, frozen, entryOf, fieldTypes, dynIds, kids, Table}
+use Rattle.rules.specs.Table.{joinPairs, upward, representatives, repIn}
 use Rattle.rules.specs.Types.{Node, ListOf, Lambda, AttrSet, Union, Named, Bottom, flip, ok, no, Out, Run, _>>=_, give, ask, store, unionKind, intersectionKind, polarityOf}
 use Rattle.rules.specs.Members.{each, has-type-contradiction, simplify-union-neg-intersection, negate-output-ty}
-use Rattle.rules.specs.Canonicalizer.{Pass, Reader, Visit, variable, note, hasBailed, slot, setKey, concreteOf, flattened, compositeKind, settle, topIfEmptied, deduplicated, normalized, expand-bounds, isVariable, isNamed, isPrim, negated, isAtom, lowers, uppers, beginList, Begun, began, begin, expand-bounds-empty-fallback, chain, expansion, boundsOf, preserving, variableRule, namedBound, canonicalize-inner, fieldsRule, dynRule, firstMember, interRest, turned, interRetry, interRule, unionNormalized, unionRule, rule, work, entered, visit, fresh, pass, isBoth, shown, afterSecond, withSet, afterFirst, canonicalize, readerOf, functorNumber, firstPass, answerOf}
+use Rattle.rules.specs.Canonicalizer.{Pass, Reader, Visit, variable, note, hasBailed, slot, setKey, concreteOf, flattened, compositeKind, settle, topIfEmptied}
+use Rattle.rules.specs.Canonicalizer.{deduplicated, normalized, expand-bounds, isVariable, isNamed, isPrim, negated, isAtom, lowers, uppers, beginList, Begun, began}
+use Rattle.rules.specs.Canonicalizer.{begin, expand-bounds-empty-fallback, chain, expansion, boundsOf, preserving, variableRule, namedBound, canonicalize-inner}
+use Rattle.rules.specs.Canonicalizer.{fieldsRule, dynRule, firstMember, interRest, turned, interRetry, interRule, unionNormalized, unionRule, rule, work, entered}
+use Rattle.rules.specs.Canonicalizer.{visit, fresh, pass, isBoth, shown, afterSecond, withSet, afterFirst, canonicalize, readerOf, functorNumber, firstPass, answerOf}
 use Rattle.rules.specs.Listing.{answerText, rootText}
 use Rattle.rules.specs.Calls.{same, samePair, sameRoot, comparable, rowAt, differs}
 use Rattle.rules.specs.Chains.{StepsTo, Chain, here, onward, MeetsDifference}

@@ -13,16 +13,26 @@ use Rattle.cells.specs.Part.{if, cell}
 use Rattle.rules.specs.Plain.{filter, ascending, empty, both}
 use Rattle.rules.specs.Ceilings.{mostNames, mostOperations}
 use Rattle.rules.specs.Table.{Field, Attr, Entry, var, prim, tyvar, list, fn, set, neg, named, inter, union, frozen, fieldTypes, fieldKeys, dynIds, kids, asSet}
-use Rattle.rules.specs.Types.{Node, Primitive, ListOf, Lambda, AttrSet, Union, Intersection, Named, Bottom, Top, asAttr, children, flip, State, ok, Run, _>>=_, give, refuse, is, store, unionKind, intersectionKind}
-use Rattle.rules.specs.Members.{addAll, each, remove-tautological-pairs, absorb-subsumed-union-members, merge-attrset-intersection, remove-redundant-negations, has-type-contradiction, simplify-union-neg-intersection, factor-shared-from-intersection, negate-output-ty}
-use Rattle.rules.specs.Canonicalizer.{Pass, Reader, Visit, variable, addBit, note, tick, count-one, exceeds, check-budget, slot, keyAt, setKey, should-drop-filler, flattened, compositeKind, settle, topIfEmptied, deduplicated, normalized, expand-bounds, isVariable, isNamed, lowers, uppers, beginList, Begun, began, begin, expand-bounds-empty-fallback, chain, expansion, boundsOf, preserving, variableRule, namedBound, canonicalize-inner, fieldsRule, dynRule, firstMember, interRest, turned, interRetry, interRule, unionNormalized, unionRule, rule, work, look, entered, visit, fresh}
+use Rattle.rules.specs.Types.{Node, Primitive, ListOf, Lambda, AttrSet, Union, Intersection, Named, Bottom, Top, asAttr, children, flip, State, ok, Run, _>>=_, give}
+use Rattle.rules.specs.Types.{refuse, is, store, unionKind, intersectionKind}
+use Rattle.rules.specs.Members.{addAll, each, remove-tautological-pairs, absorb-subsumed-union-members, merge-attrset-intersection, remove-redundant-negations}
+use Rattle.rules.specs.Members.{has-type-contradiction, simplify-union-neg-intersection, factor-shared-from-intersection, negate-output-ty}
+use Rattle.rules.specs.Canonicalizer.{Pass, Reader, Visit, variable, addBit, note, tick, countOne, exceeds, checkBudget, slot, keyAt, setKey, should-drop-filler}
+use Rattle.rules.specs.Canonicalizer.{flattened, compositeKind, settle, topIfEmptied, deduplicated, normalized, expand-bounds, isVariable, isNamed, lowers, uppers}
+use Rattle.rules.specs.Canonicalizer.{beginList, Begun, began, begin, expand-bounds-empty-fallback, chain, expansion, boundsOf, preserving, variableRule, namedBound}
+use Rattle.rules.specs.Canonicalizer.{canonicalize-inner, fieldsRule, dynRule, firstMember, interRest, turned, interRetry, interRule, unionNormalized, unionRule, rule}
+use Rattle.rules.specs.Canonicalizer.{work, look, entered, visit, fresh}
 use Rattle.laws.specs.Sound.{Orderly, OrderlySet, Steady, load, Tabled}
 use Rattle.rules.specs.declared.Polarity.{Polarity}
 use Rattle.rules.specs.declared.Polarity.the-variants.{Positive, Negative}
 use Rattle.laws.proofs.Storing.{Rooted}
-use Rattle.laws.proofs.Keeping.{Later, later-none, later-steady, parted, gave, refused-not, Keeps, Plain, keeps-store, keeps-variable, keeps-flattened, keeps-merge, keeps-factor, keeps-simplify, keeps-negate, keeps-preserving, keeps-firstOf, keeps-interRest, keeps-unionNormalized}
+use Rattle.laws.proofs.Keeping.{Later, later-none, later-steady, parted, gave, refused-not, Keeps, Plain, keeps-store, keeps-variable, keeps-flattened}
+use Rattle.laws.proofs.Keeping.{keeps-merge, keeps-factor, keeps-simplify, keeps-negate, keeps-preserving, keeps-firstOf, keeps-interRest}
+use Rattle.laws.proofs.Keeping.{keeps-unionNormalized}
 use Rattle.laws.proofs.Loading.{load-keep}
-use Rattle.laws.proofs.Rooting.{under-absorbed, under-cancelled, under-needed, Roots, Below, AllBelow, Wraps, roots-store, roots-variable, roots-flattened, roots-merge, roots-factor, roots-simplify, roots-negate, roots-preserving, roots-firstOf, roots-interRest, roots-unionNormalized}
+use Rattle.laws.proofs.Rooting.{under-absorbed, under-cancelled, under-needed, Roots, Below, AllBelow, Wraps, roots-store, roots-variable, roots-flattened}
+use Rattle.laws.proofs.Rooting.{roots-merge, roots-factor, roots-simplify, roots-negate, roots-preserving, roots-firstOf, roots-interRest}
+use Rattle.laws.proofs.Rooting.{roots-unionNormalized}
 use Rattle.laws.proofs.Filtering.{under-front, under-back, under-both, under-added, filter-under, under-most}
 use Rattle.cells.specs.Placed.{Under}
 use Rattle.cells.proofs.Choices.{true-false}
@@ -185,7 +195,8 @@ module _ (n : ℕ) (t : Reader) (I : Held) (stays : Stays I) where
   Done k a = Unit {0}
 
   went-on : {A : Type 0} (a : A) (st : State) (ks bs : List ℕ) (o : ℕ) (z b : Bool) → Firm n I st → length ks ≡ length (st .keys) → length bs ≡ length (st .bits)
-      → ((k : ℕ) → cell ks k < length (st .nodes) + 2) → load t 0 ks ≤ load t 0 (st .keys) → (st .bailed ≡ true → b ≡ true) → (st .ops ≤ mostOperations → o ≤ mostOperations) → I (st .nodes) ks → Went n t I (Done {A = A}) st a (remade st ks bs o z b)
+      → ((k : ℕ) → cell ks k < length (st .nodes) + 2) → load t 0 ks ≤ load t 0 (st .keys) → (st .bailed ≡ true → b ≡ true)
+      → (st .ops ≤ mostOperations → o ≤ mostOperations) → I (st .nodes) ks → Went n t I (Done {A = A}) st a (remade st ks bs o z b)
   went-on a st ks bs o z b f c d h l q m i =
       let steady : Steady n st → Steady n (remade st ks bs o z b) =
       λ s. record { sound = record { ordered = s .sound .ordered; counted = s .sound .counted }; keys = c ∙ s .keys; bits = d ∙ s .bits; stored = h } in
@@ -198,7 +209,8 @@ module _ (n : ℕ) (t : Reader) (I : Held) (stays : Stays I) where
   pub goes-note : (r : ℕ) (pol : Polarity) (st : State) → Firm n I st → Goes n t I Done (note r pol) st
   goes-note r pol st f a st′ e =
       gave (Went n t I Done st) e
-      (went-on tt st (st .keys) (setAt (st .bits) r (addBit (cell (st .bits) r) pol)) (st .ops) (st .sorted) (st .bailed) f refl (length-set (st .bits) r (addBit (cell (st .bits) r) pol)) (f .steady .stored) (omega arith) (λ h. h) (λ h. h) (f .held))
+      (went-on tt st (st .keys) (setAt (st .bits) r (addBit (cell (st .bits) r) pol)) (st .ops) (st .sorted) (st .bailed) f refl
+      (length-set (st .bits) r (addBit (cell (st .bits) r) pol)) (f .steady .stored) (omega arith) (λ h. h) (λ h. h) (f .held))
 
   pub goes-after : {A B : Type 0} (Q : ℕ → B → Type 0) (a : A) (m : Run B) (st s : State) → Went n t I (Done {A = A}) st a s → Goes n t I Q m s → (b : B) (st′ : State)
       → m s ≡ ok b st′ → Went n t I Q st b st′
@@ -380,7 +392,9 @@ module _ (p : Pass) (t : Reader) (b : Tabled p t) (I : Held) (stays : Stays I) (
       record { ascend = ap ascending e ∙ o .ascend; named = subst (Under mostNames) (sym e) (o .named); optional = o .optional }
 
   goes-set : (a : Attr) (pol : Polarity) (st : State) → Under n (fieldTypes (a .fields) ++ dynIds (a .dyn)) → Orderly a → Firm n I st
-      → Goes n t I Below (fieldsRule v pol (a .fields) >>= (λ (fs : List Field). dynRule v pol (a .dyn) >>= (λ (d : Option ℕ). store (AttrSet (record { fields = fs; dyn = d; isOpen = a .isOpen; optional = a .optional }))))) st
+      → Goes n t I Below (fieldsRule v pol (a .fields) >>=
+      (λ (fs : List Field). dynRule v pol (a .dyn) >>=
+      (λ (d : Option ℕ). store (AttrSet (record { fields = fs; dyn = d; isOpen = a .isOpen; optional = a .optional }))))) st
   goes-set a pol st u o f =
       goes-bind n t I stays (Typed (a .fields)) Below (fieldsRule v pol (a .fields)) _ st (goes-fields pol (a .fields) st (under-front n (fieldTypes (a .fields)) (dynIds (a .dyn)) u) f)
       (λ gs s g f w. goes-bind n t I stays DynBelow Below (dynRule v pol (a .dyn)) _ s (goes-dyn pol (a .dyn) s (under-back n (fieldTypes (a .fields)) (dynIds (a .dyn)) u) f)
@@ -466,7 +480,9 @@ module _ (p : Pass) (t : Reader) (I : Held) (stays : Stays I) (id : ℕ) (pol : 
   goes-look (suc (suc x)) st e f = let h = f .steady .stored (slot id pol) in goes-give (p .count) t I stays Below x st f (omega arith)
 
   entered-turn : (b : Bool) (st : State) → st .bailed ≡ b → Firm (p .count) I st
-      → Goes (p .count) t I Below (if b (λ _. variable p id) (λ _. count-one >>= (λ _. check-budget p >>= (λ (over : Bool). if over (λ _. variable p id) (λ _. keyAt (slot id pol) >>= look p id w))))) st
+      → Goes (p .count) t I Below
+      (if b (λ _. variable p id)
+      (λ _. countOne >>= (λ _. checkBudget p >>= (λ (over : Bool). if over (λ _. variable p id) (λ _. keyAt (slot id pol) >>= look p id w))))) st
   entered-turn true st e f = goes-variable (p .count) t I stays p id st f
   entered-turn false st e f =
       let g = went-ticked (p .count) t I stays p st e f in

@@ -13,7 +13,8 @@ use borrow.Author.Tests.{ltb-true, ltb-false, le-ltb, le-leb, eq-eqb, ne-eqb}
 use Rattle.cells.specs.Part.{eqList, cell}
 use Rattle.cells.proofs.Choices.{by-test}
 use Rattle.rules.specs.Plain.{_>>=_}
-use Rattle.rules.specs.Text.{comma, colon, dash, cut, pieces, parted, greatest, digit, digits, number, decimalBy, decimal, elements, counted, listOf, single, keyed, upTo, dynOf, aNumber, aCode, aFlag, aList, aDyn, someFields, aSign, fieldOf, byShape, wordsOf, listText, keyedText, fieldText, shapeTexts}
+use Rattle.rules.specs.Text.{comma, colon, dash, cut, pieces, parted, greatest, digit, digits, number, decimalBy, decimal, elements, counted, listOf, single, keyed}
+use Rattle.rules.specs.Text.{upTo, dynOf, aNumber, aCode, aFlag, aList, aDyn, someFields, aSign, fieldOf, byShape, wordsOf, listText, keyedText, fieldText, shapeTexts}
 use Rattle.rules.specs.Table.{Field}
 use Rattle.rules.specs.Types.{fieldWords, dynWords}
 use Rattle.laws.proofs.Rooting.{All, all-join}

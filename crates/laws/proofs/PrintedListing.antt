@@ -13,13 +13,17 @@ use Rattle.rules.specs.Plain.{all, contains, both, flag, joined, ascending, pos
 use Rattle.rules.specs.Ceilings.{mostText, mostNames, mostMembers, mostNodes}
 use Rattle.rules.specs.Text.{tab, lineFeed, cut, pieces, parted, greatest, number, decimal, aFlag, aList, aDyn, someFields, byShape, Kind, noKind, tagged, byWord, rowOf, rowTexts, lineText}
 use Rattle.rules.specs.Table.{Root, Field, Attr, fieldTypes, fieldKeys, dynIds, keysIn, keysAscend, allBelow, Table, Result, accepted, refused, then, tableOf}
-use Rattle.rules.specs.Types.{Node, TyVar, Primitive, ListOf, Lambda, AttrSet, Union, Intersection, Named, Neg, Bottom, Top, nodeKinds, fieldWords, dynWords, encode, members, asAttr, children, nodeAt, polarityOf}
+use Rattle.rules.specs.Types.{Node, TyVar, Primitive, ListOf, Lambda, AttrSet, Union, Intersection, Named, Neg, Bottom, Top, nodeKinds, fieldWords, dynWords, encode}
+use Rattle.rules.specs.Types.{members, asAttr, children, nodeAt, polarityOf}
 use Rattle.rules.specs.Canonicalizer.{Answer, shown, refusedWith, firstPass, readerOf, answerOf}
-use Rattle.rules.specs.Listing.{headKinds, headText, walk, renumberField, renumberDyn, renumber, nodeText, nodeTexts, answerText, rootText, rootTextOf, answersText, listingText, nodeOf, nodeFits, rowFits, isNumber, nodeLineFits, nodeInForm, Taking, nextLine, takeLine, takeNode, takeNodes, within, forRoot, nodesAfter, takeAfter, takeRoot, blank, atEnd, takeRoots, isAnswers, oldListing}
+use Rattle.rules.specs.Listing.{headKinds, headText, walk, renumberField, renumberDyn, renumber, nodeText, nodeTexts, answerText, rootText, rootTextOf, answersText}
+use Rattle.rules.specs.Listing.{listingText, nodeOf, nodeFits, rowFits, isNumber, nodeLineFits, nodeInForm, Taking, nextLine, takeLine, takeNode, takeNodes, within}
+use Rattle.rules.specs.Listing.{forRoot, nodesAfter, takeAfter, takeRoot, blank, atEnd, takeRoots, isAnswers, oldListing}
 use Rattle.laws.proofs.Admitting.{both-parts, Every}
 use Rattle.laws.proofs.Rows.{node-read}
 use Rattle.laws.proofs.Rooting.{All}
-use Rattle.laws.proofs.Printed.{all-more, every-more, Over, Free, over-free, pieces-at, pieces-parted, free-parted, number-decimal, digits-over, Numbers, Says, says-number, says-code, says-flag, says-list, says-fields, says-dyn, says-sign, Shaped, end, then as next, shaped-reads}
+use Rattle.laws.proofs.Printed.{all-more, every-more, Over, Free, over-free, pieces-at, pieces-parted, free-parted, number-decimal, digits-over, Numbers, Says}
+use Rattle.laws.proofs.Printed.{says-number, says-code, says-flag, says-list, says-fields, says-dyn, says-sign, Shaped, end, then as next, shaped-reads}
 use Rattle.laws.proofs.Walking.{Steps, walk-steps, walk-some, walk-few, position-within}
 use Rattle.laws.proofs.Forming.{FormedSet, Formed, Fine, RunNumber, Answers, shows, stops, answer-formed}
 use Rattle.laws.proofs.ReadRows.{few-names, accepted-formed, KnownRoots, roots-known}

@@ -12,7 +12,8 @@ use Rattle.cells.specs.Part.{eqList, cell, part}
 use Rattle.cells.proofs.Choices.{by-branch, by-test}
 use Rattle.cells.proofs.Holding.{holds-place, holds-head, holds-tail, holds-left, holds-right, holds-end}
 use Rattle.rules.specs.Plain.{ascii, _>>=_, given}
-use Rattle.rules.specs.Text.{comma, colon, tab, dash, pieces, greatest, digit, digits, number, elements, listOf, single, keyed, upTo, dynOf, aNumber, aCode, aFlag, aList, aDyn, someFields, aSign, aName, fieldOf, byShape, Kind, tagged, recordIn, byWord, rowOf}
+use Rattle.rules.specs.Text.{comma, colon, tab, dash, pieces, greatest, digit, digits, number, elements, listOf, single, keyed, upTo, dynOf, aNumber, aCode, aFlag}
+use Rattle.rules.specs.Text.{aList, aDyn, someFields, aSign, aName, fieldOf, byShape, Kind, tagged, recordIn, byWord, rowOf}
 use Rattle.rules.specs.Table.{Field, Attr, Entry, var, prim, tyvar, list, fn, set, neg, named, inter, union, frozen, kinds, sectionOf, entryOf, entryKind, frozenEntry}
 use Rattle.rules.specs.Types.{fieldWords, dynWords, attrWords}
 use Rattle.laws.proofs.Rows.{field-words-length, set-read}

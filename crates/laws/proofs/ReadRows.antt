@@ -11,7 +11,8 @@ use borrow.Author.Tests.{ltb-true, ltb-false}
 use Rattle.rules.specs.Plain.{ascending}
 use Rattle.rules.specs.Ceilings.{mostNames}
 use Rattle.rules.specs.Text.{greatest}
-use Rattle.rules.specs.Table.{Root, rootOf, Entry, var, prim, tyvar, list, fn, set, neg, named, inter, union, frozen, fieldKeys, asSet, keysIn, aliases, keysAscend, Table, accepted, tableOf, repIn, representatives}
+use Rattle.rules.specs.Table.{Root, rootOf, Entry, var, prim, tyvar, list, fn, set, neg, named, inter, union, frozen, fieldKeys, asSet, keysIn, aliases, keysAscend}
+use Rattle.rules.specs.Table.{Table, accepted, tableOf, repIn, representatives}
 use Rattle.rules.specs.Canonicalizer.{readerOf, firstPass}
 use Rattle.laws.proofs.Admitting.{both-parts, Accepts, each-at, inSequence, WholeTable, whole, Every, EntryRow, Signed, every-at}
 use Rattle.laws.proofs.Joining.{representative-below, representative-past}
@@ -79,7 +80,9 @@ module _ (text : List ℕ) (t : Table) (e : tableOf text ≡ accepted t) where
   pub roots-known : KnownRoots (length (t .entries)) (t .roots)
   roots-known =
       let w = its-whole in
-      subst (KnownRoots n) (sym (w .typed)) (rooted (w .rows) (λ i lt. subst (λ (rs : List Root). i < length rs → getD rs i (rootOf []) .id < n) (w .typed) (accepted-root text t e i) lt) (w .signs)) where
+      subst (KnownRoots n) (sym (w .typed))
+      (rooted (w .rows) (λ i lt. subst (λ (rs : List Root). i < length rs → getD rs i (rootOf []) .id < n) (w .typed) (accepted-root text t e i) lt)
+      (w .signs)) where
         n : ℕ
         n = length (t .entries)
 

@@ -12,8 +12,12 @@ use Rattle.rules.specs.Plain.{filter, any, all, contains, empty, addNew, both}
 use Rattle.rules.specs.Ceilings.{mostMembers}
 use Rattle.rules.specs.Table.{Field, Attr, fieldTypes, dynIds, attrKids}
 use Rattle.rules.specs.Order.{isGreater, order, insert, sortInto, sort}
-use Rattle.rules.specs.Types.{Node, TyVar, Primitive, ListOf, Lambda, AttrSet, Union, Intersection, Named, Neg, Bottom, Top, members, asAttr, children, State, ok, Run, _>>=_, give, refuse, nodeAt, is, store, limit, tyVarKind, attrSetKind, unionKind, bottomKind}
-use Rattle.rules.specs.Members.{membersAt, negatedInners, without, addAll, flattenOne, flattenInto, flatten-composite, remove-tautological-pairs, left, takenUp, absorb-subsumed-union-members, isConcrete, remove-redundant-negations, spared, takesSome, meetTypes, mergeField, mergeFields, mergeDyn, mergeAttrs, attrOf, attrsOf, merged, merge-attrset-intersection, sole, simplifyOne, simplifyEach, simplify-union-neg-intersection, markSorted, remainders, factored, factorUnions, factor-shared-from-intersection, each, negateNode, negateBy, negate-output-ty}
+use Rattle.rules.specs.Types.{Node, TyVar, Primitive, ListOf, Lambda, AttrSet, Union, Intersection, Named, Neg, Bottom, Top, members, asAttr, children, State, ok, Run}
+use Rattle.rules.specs.Types.{_>>=_, give, refuse, nodeAt, is, store, limit, tyVarKind, attrSetKind, unionKind, bottomKind}
+use Rattle.rules.specs.Members.{membersAt, negatedInners, without, addAll, flattenOne, flattenInto, flatten-composite, remove-tautological-pairs, left, takenUp}
+use Rattle.rules.specs.Members.{absorb-subsumed-union-members, isConcrete, remove-redundant-negations, spared, takesSome, meetTypes, mergeField, mergeFields, mergeDyn}
+use Rattle.rules.specs.Members.{mergeAttrs, attrOf, attrsOf, merged, merge-attrset-intersection, sole, simplifyOne, simplifyEach, simplify-union-neg-intersection}
+use Rattle.rules.specs.Members.{markSorted, remainders, factored, factorUnions, factor-shared-from-intersection, each, negateNode, negateBy, negate-output-ty}
 use Rattle.rules.specs.Canonicalizer.{Pass, variable, flattened, composite, settle, topIfEmptied, preserving, firstMember, interNormalized, interRest, unionNormalized}
 use Rattle.rules.specs.declared.Polarity.{Polarity}
 use Rattle.rules.specs.declared.Polarity.the-variants.{Positive, Negative}
@@ -417,7 +421,9 @@ roots-firstOf (y ∷ ys) st r u = roots-give Below y st r (u .0)
 
 roots-interNormalized : (p : Pass) (pol : Polarity) (ms : List ℕ) (st : State) → Rooted (st .nodes) → Under (length (st .nodes)) ms → Roots AllBelow (interNormalized p pol ms) st
 roots-interNormalized p Positive ms st r u =
-    roots-give AllBelow _ st r (under-cancelled (length (st .nodes)) (st .nodes) (remove-redundant-negations (p .functor) (st .nodes) ms) (under-needed (length (st .nodes)) (p .functor) (st .nodes) ms u))
+    roots-give AllBelow _ st r
+    (under-cancelled (length (st .nodes)) (st .nodes) (remove-redundant-negations (p .functor) (st .nodes) ms)
+    (under-needed (length (st .nodes)) (p .functor) (st .nodes) ms u))
 roots-interNormalized p Negative ms st r u =
     roots-bind AllBelow AllBelow (merge-attrset-intersection ms) _ st (roots-merge ms st r u)
     (λ one s g r v. roots-give AllBelow _ s r (under-needed (length (s .nodes)) (p .functor) (s .nodes) one v))

@@ -9,7 +9,8 @@ use lib.Dec.{eqb}
 use Rattle.cells.specs.Part.{if, cell, part}
 use Rattle.cells.proofs.Holding.{holds-place, holds-head, holds-tail, holds-left, holds-right, holds-end}
 use Rattle.rules.specs.Table.{Field, Attr, fieldsAt, dynAt, dynPlace, openPlace, attrAt, fieldKeys, fieldTypes, dynIds}
-use Rattle.rules.specs.Types.{Node, TyVar, Primitive, ListOf, Lambda, AttrSet, Union, Intersection, Named, Neg, Bottom, Top, fieldWords, dynWords, attrWords, encode, kindOf, members, children, cellsOf}
+use Rattle.rules.specs.Types.{Node, TyVar, Primitive, ListOf, Lambda, AttrSet, Union, Intersection, Named, Neg, Bottom, Top, fieldWords, dynWords, attrWords, encode}
+use Rattle.rules.specs.Types.{kindOf, members, children, cellsOf}
 use Rattle.cells.specs.Placed.{Holds}
 use mathlib.Core.Option.{Option, none, some}
 

@@ -227,7 +227,9 @@ kept-old n st i h =
       below = lt;
       node =
           encode-injective (nodeAt (st .nodes) i) n
-          (sym (List·getD-map encode (st .nodes) i Bottom) ∙ getD-any (map encode (st .nodes)) i (encode Bottom) [] (omega (arith, length-map (st .nodes) encode)) ∙ ap (λ (k : ℕ). getD (map encode (st .nodes)) k []) z ∙ h .is);
+          (sym (List·getD-map encode (st .nodes) i Bottom)
+          ∙ getD-any (map encode (st .nodes)) i (encode Bottom) [] (omega (arith, length-map (st .nodes) encode))
+          ∙ ap (λ (k : ℕ). getD (map encode (st .nodes)) k []) z ∙ h .is);
       distinct = λ d. d;
       rooted = λ u r. r;
     }

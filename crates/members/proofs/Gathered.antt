@@ -37,7 +37,8 @@ use Rattle.members.specs.declared.lists.Listed.{Listed}
 use Rattle.members.specs.declared.lists.AtMostOne.{AtMostOne}
 use Rattle.members.specs.declared.lists.AtMostOne.the-variants.{Nothing, One, Refused as RefusedP}
 use Rattle.members.specs.declared.lists.Grown.the-variants.{On as OnG, Refused as RefusedG}
-use Rattle.members.specs.Lists.{Few, Lists, Taken, Asks, Contains, firstOf, MembersOf, Gathered, only, KeepsIf, ofKind, Refuses, Wraps, PartIs, AnswersPart, Soles, Grows, CopiedInto, Joined, AsListed, WithLast, Preserves, Drops, AnswersFlow, Answers}
+use Rattle.members.specs.Lists.{Few, Lists, Taken, Asks, Contains, firstOf, MembersOf, Gathered, only, KeepsIf, ofKind, Refuses, Wraps, PartIs, AnswersPart}
+use Rattle.members.specs.Lists.{Soles, Grows, CopiedInto, Joined, AsListed, WithLast, Preserves, Drops, AnswersFlow, Answers}
 use Rattle.cells.specs.Placed.{Holds}
 
 pub few-lists : {m : Members} {xs : List ℕ} → Few m xs → Lists m xs

@@ -15,7 +15,8 @@ use Rattle.cells.specs.Sum.{Sum}
 use Rattle.cells.proofs.Parts.{run-ext, part-set-snoc}
 use Rattle.layout.specs.Layout.{countedCells, countedNodes, heldAt}
 use Rattle.rules.specs.Ceilings.{mostMembers, mostNodes, mostCells}
-use Rattle.rules.specs.Types.{State, Out, ok, no, Run, bind, give, grown, keep, encode, kindOf, members, children, cellsOf, nodeAt, store, TyVar, Primitive, ListOf, Lambda, AttrSet, Union, Intersection, Named, Neg, Bottom, Top}
+use Rattle.rules.specs.Types.{State, Out, ok, no, Run, bind, give, grown, keep, encode, kindOf, members, children, cellsOf, nodeAt, store, TyVar, Primitive, ListOf}
+use Rattle.rules.specs.Types.{Lambda, AttrSet, Union, Intersection, Named, Neg, Bottom, Top}
 use Rattle.rules.specs.Types as rules
 use Rattle.rules.specs.Members.{each, negateNode, negateBy, negate-output-ty}
 use Rattle.laws.proofs.Rows.{node-of, by-kind}

@@ -13,7 +13,8 @@ use lang_ty::disjoint;
 ghost use mathlib.Core.List.{[], _∷_};
 ghost use Rattle.cells.specs.Part.{part};
 ghost use Rattle.rules.specs.Members.{isPositive, isConcrete};
-ghost use Rattle.members.specs.Lists.{Few, Lists, Makes, Tests, Asks, Refuses, Contains, KeepsIf, MembersOf, anyOfKind, ofKind, sift, Soles, Grows, CopiedInto, Joined, AsListed, WithLast, Drops, DropsFillers};
+ghost use Rattle.members.specs.Lists.{Few, Lists, Makes, Tests, Asks, Refuses, Contains, KeepsIf, MembersOf, anyOfKind, ofKind, sift, Soles, Grows, CopiedInto};
+ghost use Rattle.members.specs.Lists.{Joined, AsListed, WithLast, Drops, DropsFillers};
 
 // The first count cells of at; a count above 128 says that there are more than fit.
 pub struct Members {

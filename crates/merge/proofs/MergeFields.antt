@@ -36,7 +36,8 @@ use Rattle.merge.specs.declared.Merging.{Merging}
 use Rattle.merge.specs.declared.Merged.the-variants.{On, Refused}
 use Rattle.merge.specs.declared.Next.{Next}
 use Rattle.merge.specs.declared.Next.the-variants.{Old, New, Both}
-use Rattle.merge.specs.Merges.{Rise, fieldAt, Meets, putAt, PutsField, HeldKey, HeldType, Comes, ComesNext, oldTaken, newTaken, nextField, nextKey, FieldPut, AnswersField, MergesField, GoesOn, Got, fieldsAt, SetNode, Free, MergesFields}
+use Rattle.merge.specs.Merges.{Rise, fieldAt, Meets, putAt, PutsField, HeldKey, HeldType, Comes, ComesNext, oldTaken, newTaken, nextField, nextKey, FieldPut}
+use Rattle.merge.specs.Merges.{AnswersField, MergesField, GoesOn, Got, fieldsAt, SetNode, Free, MergesFields}
 use Rattle.laws.proofs.Filtering.{under-at, under-most, under-front}
 use Rattle.merge.proofs.Fields.{false-true, rise-length, rise-snoc, rise-most, sweep, sweep-from, sweep-left, sweep-right, sweep-few}
 use Rattle.cells.specs.Placed.{Holds, Under}

@@ -36,7 +36,8 @@ use Rattle.merge.specs.declared.Merged.{Merged}
 use Rattle.merge.specs.declared.Merged.the-variants.{On, Refused}
 use Rattle.members.specs.declared.lists.Members.{Members}
 use Rattle.members.specs.Lists.{Taken}
-use Rattle.merge.specs.Merges.{Roomy, Got, dynAt, SetNode, Free, AnswersFields, MergesFields, DynGot, AnswersDyn, MergesDyn, OtherArea, Then, Arrived, AnswersMerged, MergesOne, AllSets, MergesAll}
+use Rattle.merge.specs.Merges.{Roomy, Got, dynAt, SetNode, Free, AnswersFields, MergesFields, DynGot, AnswersDyn, MergesDyn, OtherArea, Then, Arrived}
+use Rattle.merge.specs.Merges.{AnswersMerged, MergesOne, AllSets, MergesAll}
 use Rattle.laws.proofs.Filtering.{under-at, under-most, under-back}
 use Rattle.members.proofs.Gathered.{few-at, few-below}
 use Rattle.merge.proofs.Fields.{rise-of}

@@ -39,7 +39,9 @@ use Rattle.merge.specs.declared.Merged.the-variants.{On, Refused}
 use Rattle.members.specs.Lists.{Few, Taken, Makes, ofKind, sift, Refuses, WithLast, AnswersFlow, Answers, firstOf}
 use Rattle.merge.specs.declared.SetTest.{SetTest}
 use Rattle.merge.specs.declared.SetTest.the-variants.{Allows as AllowsT, Open as OpenT}
-use Rattle.merge.specs.Merges.{MergesSets, HeldKey, Got, Then, Arrived, AnswersMerged, AllSets, MergesAll, allowed, opened, setTest, Passes, AllPass, OpenIfAll, frontWords, backWords, WritesDyn, WritesFields, WritesFlags, PutsIf, optionalKeys, WritesOptional, mergedNode, StoresMerged, MergedLast}
+use Rattle.merge.specs.Merges.{MergesSets, HeldKey, Got, Then, Arrived, AnswersMerged, AllSets, MergesAll, allowed, opened, setTest, Passes, AllPass, OpenIfAll}
+use Rattle.merge.specs.Merges.{frontWords, backWords, WritesDyn, WritesFields, WritesFlags, PutsIf, optionalKeys, WritesOptional, mergedNode, StoresMerged}
+use Rattle.merge.specs.Merges.{MergedLast}
 use Rattle.laws.proofs.Filtering.{filter-take, filter-length, under-at, under-both, under-most}
 use Rattle.members.proofs.Gathered.{few-at, few-below}
 use Rattle.merge.proofs.Fields.{rise-length}

@@ -21,7 +21,9 @@ use members::lists::with_last;
 ghost use mathlib.Core.Path.{_≡_};
 ghost use Rattle.cells.specs.Part.{part};
 ghost use Rattle.lang_ty.specs.Nodes.{Written};
-ghost use Rattle.merge.specs.Merges.{MergesSets, Meets, PutsField, HeldKey, HeldType, ComesNext, MergesField, oldTaken, newTaken, GoesOn, fieldsAt, MergesFields, dynAt, MergesDyn, OtherArea, MergesOne, MergesAll, allowed, setTest, Passes, AllPass, OpenIfAll, WritesDyn, WritesFields, PutsIf, WritesOptional, WritesFlags, StoresMerged, MergedLast};
+ghost use Rattle.merge.specs.Merges.{MergesSets, Meets, PutsField, HeldKey, HeldType, ComesNext, MergesField, oldTaken, newTaken, GoesOn, fieldsAt, MergesFields};
+ghost use Rattle.merge.specs.Merges.{dynAt, MergesDyn, OtherArea, MergesOne, MergesAll, allowed, setTest, Passes, AllPass, OpenIfAll, WritesDyn, WritesFields};
+ghost use Rattle.merge.specs.Merges.{PutsIf, WritesOptional, WritesFlags, StoresMerged, MergedLast};
 
 // What sets come to so far: fields held at a place, and a dyn or none.
 struct Merging {

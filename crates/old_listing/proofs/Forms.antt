@@ -35,12 +35,14 @@ module _ (w : List ℕ) (to names i : ℕ) (p : Places) (x y z : Bool) where
   kids-so : (b : Bool) → SetKnown w 0 to i x → x ≡ b → setFits (row w to) names i ≡ both b (λ _. keysRest (row w to) names (keysAscend (some (attrAt (row w to) 1))))
   kids-so b k e = ap (λ (t : Bool). both t (λ _. keysRest (row w to) names (keysAscend (some (attrAt (row w to) 1))))) (sym (k .is) ∙ e)
 
-  keys-so : (b : Bool) → SetKnown w 0 to i x → x ≡ true → Placed w 0 to p → Ascend w 0 to 2 2 (p .fields) y → y ≡ b → setFits (row w to) names i ≡ keysRest (row w to) names (both b (λ _. ascending (attrAt (row w to) 1 .optional)))
+  keys-so : (b : Bool) → SetKnown w 0 to i x → x ≡ true → Placed w 0 to p → Ascend w 0 to 2 2 (p .fields) y → y ≡ b → setFits (row w to) names i
+      ≡ keysRest (row w to) names (both b (λ _. ascending (attrAt (row w to) 1 .optional)))
   keys-so b k ex q f e =
       kids-so true k ex
       ∙ ap (λ (t : Bool). keysRest (row w to) names (both t (λ _. ascending (attrAt (row w to) 1 .optional)))) (ap ascending (set-keys (row w to) p (q .is)) ∙ sym (f .is) ∙ e)
 
-  optional-so : (b : Bool) → SetKnown w 0 to i x → x ≡ true → Placed w 0 to p → Ascend w 0 to 2 2 (p .fields) y → y ≡ true → Ascend w 0 to (p .opens + 2) 1 (p .optional) z → z ≡ b → setFits (row w to) names i ≡ keysRest (row w to) names b
+  optional-so : (b : Bool) → SetKnown w 0 to i x → x ≡ true → Placed w 0 to p → Ascend w 0 to 2 2 (p .fields) y → y ≡ true
+      → Ascend w 0 to (p .opens + 2) 1 (p .optional) z → z ≡ b → setFits (row w to) names i ≡ keysRest (row w to) names b
   optional-so b k ex q f ey o e = keys-so true k ex q f ey ∙ ap (keysRest (row w to) names) (ap ascending (set-optional (row w to) p (q .is)) ∙ sym (o .is) ∙ e)
 
 module _ {w : List ℕ} {to names i : ℕ} {x : Bool} (k : SetKnown w 0 to i x) where
@@ -101,7 +103,8 @@ plain names i k r a b c d e f g =
     pick false false true = refl
     pick false false false = refl
 
-some-members : (w : List ℕ) (to i : ℕ) (b : Bool) → MembersFit w to i b → b ≡ both (allBelow i (part (row w to) 2 (cell (row w to) 1))) (λ _. both (leb (length (part (row w to) 2 (cell (row w to) 1))) mostMembers) (λ _. true))
+some-members : (w : List ℕ) (to i : ℕ) (b : Bool) → MembersFit w to i b → b
+    ≡ both (allBelow i (part (row w to) 2 (cell (row w to) 1))) (λ _. both (leb (length (part (row w to) 2 (cell (row w to) 1))) mostMembers) (λ _. true))
 some-members w to i b h =
     h .is
     ∙ ap (λ (n : ℕ). both (allBelow i (part (row w to) 2 (cell (row w to) 1))) (λ _. leb n mostMembers)) (sym (run-length (cell (row w to)) 2 (cell (row w to) 1)))

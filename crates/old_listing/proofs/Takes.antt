@@ -19,7 +19,8 @@ use Rattle.rules.specs.Plain.{both}
 use Rattle.rules.specs.Text.{tab, lineFeed, cut, pieces, number, byWord, rowOf}
 use Rattle.rules.specs.Table.{Root, Result, accepted, refused, then}
 use Rattle.rules.specs.Types.{nodeKinds}
-use Rattle.rules.specs.Listing.{headKinds, isNumber, rowFits, nodeLineFits, nodeInForm, Taking, nextLine, takeLine, takeNode, takeNodes, nodesAfter, takeAfter, takeRoot, atEnd, takeRoots, isAnswers, oldListing}
+use Rattle.rules.specs.Listing.{headKinds, isNumber, rowFits, nodeLineFits, nodeInForm, Taking, nextLine, takeLine, takeNode, takeNodes, nodesAfter, takeAfter}
+use Rattle.rules.specs.Listing.{takeRoot, atEnd, takeRoots, isAnswers, oldListing}
 use Rattle.text.specs.declared.Num.{Num}
 use Rattle.text.specs.declared.Num.the-variants.{No, Is}
 use Rattle.text.specs.declared.Got.{Got}
@@ -46,7 +47,8 @@ after-count {w′ = w′} {id} {sign} h e c = record { is = c .is ∙ ap (nodesA
 pub answers-bad : {s w w′ : List ℕ} {from to n : ℕ} {r : Got} → Row headKinds s from to 0 w w′ r → r ≡ Bad → IsAnswers s from to n false
 answers-bad {w′ = w′} {n = n} h e = record { is = ap (isAnswers n) (ap (gotWords 0 w′) (sym e) ∙ h .wrote .is) }
 
-answers-so : (s w w′ : List ℕ) (from to n t x : ℕ) (r : Got) (b : Bool) → Row headKinds s from to 0 w w′ r → r ≡ To t → At w′ 0 t 0 x → eqb x 0 ≡ b → both b (λ _. eqb (cell (row w′ t) 1) n) ≡ isAnswers n (rowOf headKinds (span s from to))
+answers-so : (s w w′ : List ℕ) (from to n t x : ℕ) (r : Got) (b : Bool) → Row headKinds s from to 0 w w′ r → r ≡ To t → At w′ 0 t 0 x → eqb x 0 ≡ b
+    → both b (λ _. eqb (cell (row w′ t) 1) n) ≡ isAnswers n (rowOf headKinds (span s from to))
 answers-so s w w′ from to n t x r b h e a f =
     ap (λ (c : Bool). both c (λ _. eqb (cell (row w′ t) 1) n)) (sym f ∙ ap (λ (y : ℕ). eqb y 0) (a .is))
     ∙ ap (isAnswers n) (ap (gotWords 0 w′) (sym e) ∙ h .wrote .is)
@@ -59,13 +61,15 @@ module _ {s w w′ : List ℕ} {from to n t x : ℕ} {r : Got} (h : Row headKind
   answers-no f = record { is = answers-so s w w′ from to n t x r false h e a (ne-eqb x 0 f) }
 
 -- a node's line: its number and the rest
-form-so : (s : List ℕ) (from to k names i : ℕ) (m : Option ℕ) → Seek s from to 9 k → m ≡ number (span s from k) → both (isNumber i m) (λ _. rowFits names i (byWord nodeKinds (left s (k + 1) to))) ≡ nodeInForm names i (span s from to)
+form-so : (s : List ℕ) (from to k names i : ℕ) (m : Option ℕ) → Seek s from to 9 k → m ≡ number (span s from k)
+    → both (isNumber i m) (λ _. rowFits names i (byWord nodeKinds (left s (k + 1) to))) ≡ nodeInForm names i (span s from to)
 unfolding nodeInForm
 form-so s from to k names i m y e =
     ap (λ (z : Option ℕ). both (isNumber i z) (λ _. rowFits names i (byWord nodeKinds (left s (k + 1) to)))) e
     ∙ ap (nodeLineFits names i) (sym (pieces-here s from to k y))
 
-numbered : (s : List ℕ) (from to k names i n : ℕ) (m : Num) → Seek s from to 9 k → Number s from k m → m ≡ Is n → n ≡ i → rowFits names i (byWord nodeKinds (left s (k + 1) to)) ≡ nodeInForm names i (span s from to)
+numbered : (s : List ℕ) (from to k names i n : ℕ) (m : Num) → Seek s from to 9 k → Number s from k m → m ≡ Is n → n ≡ i
+    → rowFits names i (byWord nodeKinds (left s (k + 1) to)) ≡ nodeInForm names i (span s from to)
 numbered s from to k names i n m y h e f =
     ap (λ (b : Bool). both b (λ _. rowFits names i (byWord nodeKinds (left s (k + 1) to)))) (sym (eq-eqb n i f))
     ∙ form-so s from to k names i (some n) y (ap numOf (sym e) ∙ h .is)
@@ -105,15 +109,18 @@ module _ {s : List ℕ} {from to k names i : ℕ} {m : Num} (y : Seek s from to 
       }
 
 -- the next line
-next-here : {A : Type 0} (k : ℕ) (f : List ℕ → List (List ℕ) → Result A) (s : List ℕ) (at m e : ℕ) → Seek s at m 10 e → e < m → nextLine k (pieces lineFeed (span s at m)) f ≡ f (span s at e) (pieces lineFeed (span s (e + 1) m))
+next-here : {A : Type 0} (k : ℕ) (f : List ℕ → List (List ℕ) → Result A) (s : List ℕ) (at m e : ℕ) → Seek s at m 10 e → e < m
+    → nextLine k (pieces lineFeed (span s at m)) f ≡ f (span s at e) (pieces lineFeed (span s (e + 1) m))
 unfolding pieces
-next-here k f s at m e y l = ap (λ (q : List (List ℕ)). nextLine k q f) (y .here l) ∙ cut-some (λ (q : List (List ℕ)). nextLine k (span s at e ∷ q) f ≡ f (span s at e) q) (λ p ps. refl) lineFeed [] (span s (e + 1) m)
+next-here k f s at m e y l = ap (λ (q : List (List ℕ)). nextLine k q f) (y .here l)
+    ∙ cut-some (λ (q : List (List ℕ)). nextLine k (span s at e ∷ q) f ≡ f (span s at e) q) (λ p ps. refl) lineFeed [] (span s (e + 1) m)
 
 next-last : {A : Type 0} (k : ℕ) (f : List ℕ → List (List ℕ) → Result A) (s : List ℕ) (at m e : ℕ) → Seek s at m 10 e → e ≡ m → nextLine k (pieces lineFeed (span s at m)) f ≡ refused 11 k
 next-last k f s at m e y l = ap (λ (q : List (List ℕ)). nextLine k q f) (y .last l)
 
 -- a line that is taken
-taken-so : (s : List ℕ) (a at e k : ℕ) → a ≤ at → Seek s at (length s) 10 e → e < length s → takeLine (takingAt s a at k) (span s at e) (pieces lineFeed (span s (e + 1) (length s))) ≡ takingAt s a (e + 1) (k + 1)
+taken-so : (s : List ℕ) (a at e k : ℕ) → a ≤ at → Seek s at (length s) 10 e → e < length s
+    → takeLine (takingAt s a at k) (span s at e) (pieces lineFeed (span s (e + 1) (length s))) ≡ takingAt s a (e + 1) (k + 1)
 taken-so s a at e k h y l =
     ap₂ {C = Taking} (λ (x : List ℕ) (n : ℕ). record { text = x; line = n; rest = pieces lineFeed (span s (e + 1) (length s)) })
     (ap₂ {C = List ℕ} (λ (x : List ℕ) (n : ℕ). x ++ (n ∷ [])) (sym (span-append s a at e h (y .low))) (sym (y .found l)) ∙ sym (span-snoc s a e (omega (arith, y .low))))
@@ -258,7 +265,8 @@ end-surplus : (s : List ℕ) (at k : ℕ) → at < length s → atEnd k (pieces 
 unfolding pieces
 end-surplus s at k h =
     ap (λ (l : List ℕ). atEnd k (cut lineFeed [] l)) (span-next s at (length s) h)
-    ∙ end-if k ([] ∷ cut lineFeed [] (span s (at + 1) (length s))) (cut lineFeed (cell s at ∷ []) (span s (at + 1) (length s))) (eqb (cell s at) lineFeed) (end-two k lineFeed [] [] (span s (at + 1) (length s))) (end-got k lineFeed (cell s at) [] (span s (at + 1) (length s)))
+    ∙ end-if k ([] ∷ cut lineFeed [] (span s (at + 1) (length s))) (cut lineFeed (cell s at ∷ []) (span s (at + 1) (length s))) (eqb (cell s at) lineFeed)
+    (end-two k lineFeed [] [] (span s (at + 1) (length s))) (end-got k lineFeed (cell s at) [] (span s (at + 1) (length s)))
 
 end-here : (s : List ℕ) (at k : ℕ) → length s ≤ at → atEnd k (pieces lineFeed (span s at (length s))) ≡ accepted []
 unfolding pieces
@@ -273,7 +281,9 @@ then-same : (m : Result (List (List ℕ))) → then m (λ (ts : List (List ℕ))
 then-same (accepted ts) = refl
 then-same (refused k l) = refl
 
-then-more : (m : Result (List (List ℕ))) (x : List ℕ) (got : List (List ℕ)) → then (then m (λ (ts : List (List ℕ)). accepted (x ∷ ts))) (λ (ts : List (List ℕ)). accepted (got ++ ts)) ≡ then m (λ (ts : List (List ℕ)). accepted ((got ++ (x ∷ [])) ++ ts))
+then-more : (m : Result (List (List ℕ))) (x : List ℕ) (got : List (List ℕ))
+    → then (then m (λ (ts : List (List ℕ)). accepted (x ∷ ts))) (λ (ts : List (List ℕ)). accepted (got ++ ts))
+    ≡ then m (λ (ts : List (List ℕ)). accepted ((got ++ (x ∷ [])) ++ ts))
 then-more (accepted ts) x got = ap (λ (l : List (List ℕ)). accepted l) (sym (append-assoc got (x ∷ []) ts))
 then-more (refused k l) x got = refl
 

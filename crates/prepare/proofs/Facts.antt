@@ -37,7 +37,8 @@ use Rattle.storage.specs.Passes.{Reps, Knows}
 use Rattle.storage.specs.Equivs.{pairAt, pairsIn, Behind, Represents}
 use Rattle.storage.proofs.Alike.{Alike}
 use Rattle.prepare.specs.declared.Prepared.{Prepared}
-use Rattle.prepare.specs.Prepares.{Number, FirstEntry, FirstPair, FirstMark, FirstRoot, mark, markAll, marksIn, rootAt, rootsIn, SetsMark, SetsMarks, functorName, IsFunctor, Functor, Budget, Prepares}
+use Rattle.prepare.specs.Prepares.{Number, FirstEntry, FirstPair, FirstMark, FirstRoot, mark, markAll, marksIn, rootAt, rootsIn, SetsMark, SetsMarks}
+use Rattle.prepare.specs.Prepares.{functorName, IsFunctor, Functor, Budget, Prepares}
 use Rattle.prepare.proofs.Prepares.{read-kept, same-table, rows-formed, many, reads-table}
 
 -- the first rows

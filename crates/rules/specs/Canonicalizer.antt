@@ -70,16 +70,16 @@ abbrev pub tick : ℕ → ℕ
 tick n = if (ltb n mostOperations) (λ _. suc n) (λ _. n)
 
 -- "Count one operation"
-abbrev pub count-one : Run (Unit {0})
-count-one = λ s.
+abbrev pub countOne : Run (Unit {0})
+countOne = λ s.
     ok tt (record { nodes = s .nodes; cells = s .cells; keys = s .keys; bits = s .bits; ops = tick (s .ops); sorted = s .sorted; bailed = s .bailed })
 
 -- "If the pass's count is a multiple of 512 and the operations of both passes so far exceed the budget, bail"
 abbrev pub exceeds : Pass → ℕ → Bool
 exceeds p ops = both (eqb (ops % 512) 0) (λ _. ltb (p .budget) (p .spent + ops))
 
-abbrev pub check-budget : Pass → Run Bool
-check-budget p = λ s.
+abbrev pub checkBudget : Pass → Run Bool
+checkBudget p = λ s.
     ok (exceeds p (s .ops)) (record {
       nodes = s .nodes;
       cells = s .cells;
@@ -420,8 +420,8 @@ entered p id pol w = do
   bailed ← hasBailed
   if bailed (λ _. variable p id)
       (λ _. do
-        _ ← count-one
-        over ← check-budget p
+        _ ← countOne
+        over ← checkBudget p
         if over (λ _. variable p id)
             (λ _. do
               k ← keyAt (slot id pol)

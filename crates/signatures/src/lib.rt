@@ -26,7 +26,8 @@ pub extern "C" fn pekonusit_canon(
     arena: &mut [u32],
     work: &mut [u32],
 ) -> u64
-    ensures { λ r. ⌜ Exported (Canon (now (text .entry)) (now (out .entry)) (now (draft .entry)) (now (table .entry)) (now (arena .entry)) (now (work .entry)) (now (out .exit)) (now (draft .exit)) (now (table .exit)) (now (arena .exit)) (now (work .exit))) r ⌝ }
+    ensures { λ r. ⌜ Exported (Canon (now (text .entry)) (now (out .entry)) (now (draft .entry)) (now (table .entry)) (now (arena .entry)) (now (work .entry))
+        (now (out .exit)) (now (draft .exit)) (now (table .exit)) (now (arena .exit)) (now (work .exit))) r ⌝ }
 {
     code(canon(text, out, draft, table, arena, work))
 }
@@ -42,7 +43,8 @@ pub extern "C" fn pekonusit_canon_root(
     arena: &mut [u32],
     work: &mut [u32],
 ) -> u64
-    ensures { λ r. ⌜ Exported (CanonRoot (now (text .entry)) id sign (now (out .entry)) (now (draft .entry)) (now (table .entry)) (now (arena .entry)) (now (work .entry)) (now (out .exit)) (now (draft .exit)) (now (table .exit)) (now (arena .exit)) (now (work .exit))) r ⌝ }
+    ensures { λ r. ⌜ Exported (CanonRoot (now (text .entry)) id sign (now (out .entry)) (now (draft .entry)) (now (table .entry)) (now (arena .entry)) (now (work .entry))
+        (now (out .exit)) (now (draft .exit)) (now (table .exit)) (now (arena .exit)) (now (work .exit))) r ⌝ }
 {
     code(canon_root(text, id, sign, out, draft, table, arena, work))
 }
@@ -59,7 +61,9 @@ pub extern "C" fn pekonusit_recheck(
     arena: &mut [u32],
     work: &mut [u32],
 ) -> u64
-    ensures { λ r. ⌜ Exported (Rechecked (now («old_text» .entry)) (now («new_text» .entry)) (now (listing .entry)) (now (out .entry)) (now (draft .entry)) (now (old .entry)) (now (table .entry)) (now (arena .entry)) (now (work .entry)) (now (out .exit)) (now (draft .exit)) (now (old .exit)) (now (table .exit)) (now (arena .exit)) (now (work .exit))) r ⌝ }
+    ensures { λ r. ⌜ Exported (Rechecked (now («old_text» .entry)) (now («new_text» .entry)) (now (listing .entry)) (now (out .entry))
+        (now (draft .entry)) (now (old .entry)) (now (table .entry)) (now (arena .entry)) (now (work .entry))
+        (now (out .exit)) (now (draft .exit)) (now (old .exit)) (now (table .exit)) (now (arena .exit)) (now (work .exit))) r ⌝ }
 {
     code(recheck(
         old_text,

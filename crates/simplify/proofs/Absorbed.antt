@@ -133,12 +133,14 @@ module _ {w : List ℕ} {x y : ℕ} {c : Bool} (k : Is w 4 y c) where
     module _ {o : ℕ} (first : Open w a o) where
       pub subsumes-closed : (o ≡ 1 → ⊥) → Subsumes w x y false
       subsumes-closed f =
-          sets (λ t u m v. sym (ap (λ (p : Bool). chain p (eqb (u .isOpen) 1) (noDynOrSame (t .dyn) (u .dyn)) (all (covers t u) (fieldKeys (t .fields)))) (ne-eqb (t .isOpen) 1 (λ z. f (first .is m ∙ z)))))
+          sets (λ t u m v. sym (ap (λ (p : Bool). chain p (eqb (u .isOpen) 1) (noDynOrSame (t .dyn) (u .dyn)) (all (covers t u) (fieldKeys (t .fields))))
+          (ne-eqb (t .isOpen) 1 (λ z. f (first .is m ∙ z)))))
 
       module _ {j : ℕ} (f : o ≡ 1) (second : Open w b j) where
         pub subsumes-shut : (j ≡ 1 → ⊥) → Subsumes w x y false
         subsumes-shut g =
-            sets (λ t u m v. sym (ap₂ (λ (p q : Bool). chain p q (noDynOrSame (t .dyn) (u .dyn)) (all (covers t u) (fieldKeys (t .fields)))) (eq-eqb (t .isOpen) 1 (sym (first .is m) ∙ f)) (ne-eqb (u .isOpen) 1 (λ z. g (second .is v ∙ z)))))
+            sets (λ t u m v. sym (ap₂ (λ (p q : Bool). chain p q (noDynOrSame (t .dyn) (u .dyn)) (all (covers t u) (fieldKeys (t .fields))))
+            (eq-eqb (t .isOpen) 1 (sym (first .is m) ∙ f)) (ne-eqb (u .isOpen) 1 (λ z. g (second .is v ∙ z)))))
 
         module _ {d : Bool} (g : j ≡ 1) (dyn : DynCovers w a b d) where
           opened : {r : Bool} → ((t u : Attr) → SetAt w a t → SetAt w b u → r ≡ both d (λ _. all (covers t u) (fieldKeys (t .fields)))) → Subsumes w x y r
@@ -146,7 +148,8 @@ module _ {w : List ℕ} {x y : ℕ} {c : Bool} (k : Is w 4 y c) where
               sets (λ t u m v.
               h t u m v
               ∙ ap (λ (z : Bool). both z (λ _. all (covers t u) (fieldKeys (t .fields)))) (dyn .is m v)
-              ∙ sym (ap₂ (λ (p q : Bool). chain p q (noDynOrSame (t .dyn) (u .dyn)) (all (covers t u) (fieldKeys (t .fields)))) (eq-eqb (t .isOpen) 1 (sym (first .is m) ∙ f)) (eq-eqb (u .isOpen) 1 (sym (second .is v) ∙ g))))
+              ∙ sym (ap₂ (λ (p q : Bool). chain p q (noDynOrSame (t .dyn) (u .dyn)) (all (covers t u) (fieldKeys (t .fields))))
+              (eq-eqb (t .isOpen) 1 (sym (first .is m) ∙ f)) (eq-eqb (u .isOpen) 1 (sym (second .is v) ∙ g))))
 
           pub subsumes-dyn : not d ≡ true → Subsumes w x y false
           subsumes-dyn h = opened (λ t u m v. sym (ap (λ (z : Bool). both z (λ _. all (covers t u) (fieldKeys (t .fields)))) (not-true d h)))

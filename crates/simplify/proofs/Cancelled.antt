@@ -121,7 +121,8 @@ module _ {w : List ℕ} {x : ℕ} {c : Bool} (a : Is w 8 x c) where
         ap (λ (t : Bool). both t (λ _. contains xs v)) (p .is h (omega arith))
         ∙ sym (sift-contains (isPositive ns) v xs)
         ∙ sym (once (contains (filter (isPositive ns) xs) v))
-        ∙ sym (ap (λ (k : Node). both (not (eqb (kindOf k) 8 || eqb (kindOf k) 0 || eqb (kindOf k) 9 || eqb (kindOf k) 10)) (λ _. contains (negatedInners ns xs) x) || any (contains (filter (isPositive ns) xs)) (innerOf k)) n)
+        ∙ sym (ap (λ (k : Node). both (not (eqb (kindOf k) 8 || eqb (kindOf k) 0 || eqb (kindOf k) 9 || eqb (kindOf k) 10))
+        (λ _. contains (negatedInners ns xs) x) || any (contains (filter (isPositive ns) xs)) (innerOf k)) n)
 
     pub cancel-none : {ms : List ℕ} {n : ℕ} → not d ≡ true → Beside halved w ms n x false
     cancel-none z = record { is = λ {q} {ns} {xs} h t lt. sym (ap (λ (k : Bool). both k (λ _. contains xs v)) (not-true d z)) ∙ held xs h lt }

@@ -11,7 +11,8 @@ use borrow.Author.Tests.{eqb-true, eqb-false, not-true, not-false}
 use Rattle.cells.specs.Part.{cell, if}
 use Rattle.rules.specs.Plain.{any, filter, both}
 use Rattle.rules.specs.Types.{Node, kindOf, children, nodeAt, is}
-use Rattle.rules.specs.Members.{innerOf, negatedInners, isPositive, is-output-subtype-or-equal, are-output-types-disjoint, allSameNonPrimitive, disjointPair, subsumedByNegation, has-type-contradiction}
+use Rattle.rules.specs.Members.{innerOf, negatedInners, isPositive, is-output-subtype-or-equal, are-output-types-disjoint, allSameNonPrimitive, disjointPair}
+use Rattle.rules.specs.Members.{subsumedByNegation, has-type-contradiction}
 use Rattle.lang_ty.specs.declared.arena.Pass.{Pass}
 use Rattle.lang_ty.specs.Nodes.{Arena, Word, Is}
 use Rattle.members.specs.declared.lists.Members.{Members}

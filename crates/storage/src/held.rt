@@ -14,7 +14,8 @@ use lang_ty::attrset;
 use layout::TableSlice;
 use layout::WorkSlice;
 use rules::Polarity;
-ghost use Rattle.storage.specs.Helds.{Wanted, HoldsIf, HoldsBounds, Forgets, HoldsFirst, FirstOfEach, Deduplicates, BeginsList, OwnList, OwnBounds, SetChild, HoldsFields, HoldsOne, HoldsTwo, HoldsChildren, FirstPolarity};
+ghost use Rattle.storage.specs.Helds.{Wanted, HoldsIf, HoldsBounds, Forgets, HoldsFirst, FirstOfEach, Deduplicates, BeginsList, OwnList, OwnBounds, SetChild};
+ghost use Rattle.storage.specs.Helds.{HoldsFields, HoldsOne, HoldsTwo, HoldsChildren, FirstPolarity};
 
 // Which bounds of a list are expanded.
 pub enum Which {

@@ -33,7 +33,8 @@ module _ (p : Progress) (w w′ : List ℕ) (f : Fine p) (l : Layout p w) (a : A
   inside : (k : ℕ) → 1 ≤ k → k < 1 + p .table .names + p .table .entries + p .table .pairs + p .table .marks + p .table .roots → k < p .lines
   inside k low high =
       ⊎-elim
-      (λ e. let n = f .no-names (omega arith) in let m = f .no-entries (omega arith) in let o = f .no-pairs (omega arith) in let q = f .no-marks (omega arith) in let r = f .no-roots (omega arith) in omega arith)
+      (λ e. let n = f .no-names (omega arith) in let m = f .no-entries (omega arith) in let o = f .no-pairs (omega arith) in let q = f .no-marks
+      (omega arith) in let r = f .no-roots (omega arith) in omega arith)
       (λ e. let b = f .begun e in omega arith)
       (zero-or (p .stage))
 
@@ -87,10 +88,42 @@ map-if f false x y x′ y′ p q = q
 lengths-add : (t : rules.Sections) (s : ℕ) (row : List ℕ) → lengthsOf (addRow t s row) ≡ countRow (lengthsOf t) s
 lengths-add t s row =
     map-if lengthsOf (eqb s 0) _ _ _ _ refl
-    (map-if lengthsOf (eqb s 1) _ _ _ _ (λ i. record { names = length-append (t .names) (drop 1 row ∷ []) i; entries = length (t .entries); pairs = length (t .pairs); marks = length (t .marks); roots = length (t .roots) })
-    (map-if lengthsOf (eqb s 2) _ _ _ _ (λ i. record { names = length (t .names); entries = length-append (t .entries) (row ∷ []) i; pairs = length (t .pairs); marks = length (t .marks); roots = length (t .roots) })
-    (map-if lengthsOf (eqb s 3) _ _ _ _ (λ i. record { names = length (t .names); entries = length (t .entries); pairs = length-append (t .pairs) (drop 1 row ∷ []) i; marks = length (t .marks); roots = length (t .roots) })
-    (map-if lengthsOf (eqb s 4) _ _ _ _ (λ i. record { names = length (t .names); entries = length (t .entries); pairs = length (t .pairs); marks = length-append (t .marks) (drop 1 row ∷ []) i; roots = length (t .roots) })
+    (map-if lengthsOf (eqb s 1) _ _ _ _
+    (λ i. record {
+      names = length-append (t .names) (drop 1 row ∷ []) i;
+      entries = length (t .entries);
+      pairs = length (t .pairs);
+      marks = length
+          (t .marks);
+      roots = length (t .roots);
+    })
+    (map-if lengthsOf (eqb s 2) _ _ _ _
+    (λ i. record {
+      names = length (t .names);
+      entries = length-append (t .entries) (row ∷ []) i;
+      pairs = length (t .pairs);
+      marks = length
+          (t .marks);
+      roots = length (t .roots);
+    })
+    (map-if lengthsOf (eqb s 3) _ _ _ _
+    (λ i. record {
+      names = length (t .names);
+      entries = length (t .entries);
+      pairs = length-append (t .pairs) (drop 1 row ∷ []) i;
+      marks = length
+          (t .marks);
+      roots = length (t .roots);
+    })
+    (map-if lengthsOf (eqb s 4) _ _ _ _
+    (λ i. record {
+      names = length (t .names);
+      entries = length (t .entries);
+      pairs = length (t .pairs);
+      marks = length-append (t .marks)
+          (drop 1 row ∷ []) i;
+      roots = length (t .roots);
+    })
     (λ i. record { names = length (t .names); entries = length (t .entries); pairs = length (t .pairs); marks = length (t .marks); roots = length-append (t .roots) (drop 1 row ∷ []) i })))))
 
 pub bare-length : (w : List ℕ) (a n : ℕ) → length (bare (run (rowAt w) a n)) ≡ n
@@ -106,9 +139,12 @@ lengths-at b t w = λ i. record {
 }
 
 module _ (p : Progress) (w : List ℕ) (to : ℕ) where
-  over-same : (sec : ℕ) → overBy (countRow (p .table) sec) (p .ids + rowWeight sec (span w (p .top) to)) sec ((to - p .top) - 1) ≡ over (add (readingOf p w) sec (span w (p .top) to)) sec (span w (p .top) to)
+  over-same : (sec : ℕ) → overBy (countRow (p .table) sec) (p .ids + rowWeight sec (span w (p .top) to)) sec ((to - p .top) - 1)
+      ≡ over (add (readingOf p w) sec (span w (p .top) to)) sec (span w (p .top) to)
   over-same sec =
-      let sizes : countRow (p .table) sec ≡ lengthsOf (addRow (tableAt (budgetBy (p .stage) w) (p .table) w) sec (span w (p .top) to)) = ap (λ (t : Table). countRow t sec) (sym (lengths-at (budgetBy (p .stage) w) (p .table) w)) ∙ sym (lengths-add (tableAt (budgetBy (p .stage) w) (p .table) w) sec (span w (p .top) to)) in
+      let sizes : countRow (p .table) sec
+      ≡ lengthsOf (addRow (tableAt (budgetBy (p .stage) w) (p .table) w) sec (span w (p .top) to)) = ap (λ (t : Table). countRow t sec)
+      (sym (lengths-at (budgetBy (p .stage) w) (p .table) w)) ∙ sym (lengths-add (tableAt (budgetBy (p .stage) w) (p .table) w) sec (span w (p .top) to)) in
       let size : (to - p .top) - 1 ≡ length (drop 1 (span w (p .top) to)) = let a = length-drop 1 (span w (p .top) to) in let b = span-length w (p .top) to in omega arith in
       ap₂ {C = Bool} (λ (t : Table) (n : ℕ). overBy t (p .ids + rowWeight sec (span w (p .top) to)) sec n) sizes size
 
@@ -144,7 +180,8 @@ module _ (p : Progress) (w : List ℕ) (to : ℕ) (f : Fine p) (l : Layout p w) 
 
   ascends-same : (sec : ℕ) → inOrder (p .stage) sec ≡ true → ascendsBy p w to sec ≡ ascends (tableAt (budgetBy (p .stage) w) (p .table) w) sec (span w (p .top) to)
   ascends-same sec h =
-      if-at (eqb sec 1) (nameAfter p w to) (afterLast (bare (run (rowAt w) 1 (p .table .names))) (drop 1 (span w (p .top) to))) (if (eqb sec 2) (λ _. keysAscend (asSet (entryOf (span w (p .top) to)))) (λ _. true))
+      if-at (eqb sec 1) (nameAfter p w to) (afterLast (bare (run (rowAt w) 1 (p .table .names))) (drop 1 (span w (p .top) to)))
+      (if (eqb sec 2) (λ _. keysAscend (asSet (entryOf (span w (p .top) to)))) (λ _. true))
       (λ q.
       let o = begun-in-order (p .stage) 0 (subst (λ (k : ℕ). inOrder (p .stage) k ≡ true) (eqb-true sec 1 q) h) in
       let b = f .begun (o .0) in
@@ -160,7 +197,9 @@ abbrev pub said : Verdict → Reading → Admission
 said (TakenV q) z = admitted z
 said (Fault k) z = fault k
 
-push : (a b c d : Bool) (n : Progress) (z : Reading) → said (if a (λ _. if b (λ _. Fault 2) (λ _. if c (λ _. if d (λ _. Fault 5) (λ _. TakenV n)) (λ _. Fault 4))) (λ _. Fault 1)) z ≡ if a (λ _. if b (λ _. fault 2) (λ _. if c (λ _. if d (λ _. fault 5) (λ _. admitted z)) (λ _. fault 4))) (λ _. fault 1)
+push : (a b c d : Bool) (n : Progress) (z : Reading)
+    → said (if a (λ _. if b (λ _. Fault 2) (λ _. if c (λ _. if d (λ _. Fault 5) (λ _. TakenV n)) (λ _. Fault 4))) (λ _. Fault 1)) z
+    ≡ if a (λ _. if b (λ _. fault 2) (λ _. if c (λ _. if d (λ _. fault 5) (λ _. admitted z)) (λ _. fault 4))) (λ _. fault 1)
 push false b c d n z = refl
 push true true c d n z = refl
 push true false false d n z = refl
@@ -182,6 +221,11 @@ if-when false x y z h = refl
 module _ (p : Progress) (w : List ℕ) (to : ℕ) (f : Fine p) (l : Layout p w) where
   pub admitted-by : (sec : ℕ) → said (judgeBy p w to sec) (add (readingOf p w) sec (span w (p .top) to)) ≡ admit (readingOf p w) sec (span w (p .top) to)
   admitted-by sec =
-      push (inOrder (p .stage) sec) (overBy (countRow (p .table) sec) (p .ids + rowWeight sec (span w (p .top) to)) sec ((to - p .top) - 1)) (ascendsBy p w to sec) (eqb (cell (span w (p .top) to) 0) frozenEntry) (advanceBy p sec (rowWeight sec (span w (p .top) to)) to) (add (readingOf p w) sec (span w (p .top) to))
+      push (inOrder (p .stage) sec) (overBy (countRow (p .table) sec) (p .ids + rowWeight sec (span w (p .top) to)) sec ((to - p .top) - 1))
+      (ascendsBy p w to sec) (eqb (cell (span w (p .top) to) 0) frozenEntry) (advanceBy p sec (rowWeight sec (span w (p .top) to)) to)
+      (add (readingOf p w) sec (span w (p .top) to))
       ∙ if-when (inOrder (p .stage) sec) _ _ (fault 1)
-      (λ h. ap₂ {C = Admission} (λ (b c : Bool). if b (λ _. fault 2) (λ _. if c (λ _. if (eqb (cell (span w (p .top) to) 0) frozenEntry) (λ _. fault 5) (λ _. admitted (add (readingOf p w) sec (span w (p .top) to)))) (λ _. fault 4))) (over-same p w to sec) (ascends-same p w to f l sec h))
+      (λ h. ap₂ {C = Admission}
+      (λ (b c : Bool). if b (λ _. fault 2)
+      (λ _. if c (λ _. if (eqb (cell (span w (p .top) to) 0) frozenEntry) (λ _. fault 5) (λ _. admitted (add (readingOf p w) sec (span w (p .top) to))))
+      (λ _. fault 4))) (over-same p w to sec) (ascends-same p w to f l sec h))

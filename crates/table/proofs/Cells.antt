@@ -51,7 +51,10 @@ module _ {w : List ℕ} {from to a step n p i : ℕ} (inv : Ascending w from to 
     turn : if (ltb x y) (λ _. ascending (every (span w from to) step (p + step) (n - ((i + 1) - 1)))) (λ _. false) ≡ ascending (every (span w from to) step a n)
     turn =
         ap₂ {C = Bool} (λ (u v : ℕ). if (ltb u v) (λ _. ascending (every (span w from to) step (p + step) (n - ((i + 1) - 1)))) (λ _. false)) (e .is) (f .is)
-        ∙ (let z : n - ((i + 1) - 1) ≡ suc (n - (i + 1)) = omega arith in ap (λ (m : ℕ). if (ltb (cell (span w from to) p) (cell (span w from to) (p + step))) (λ _. ascending (every (span w from to) step (p + step) m)) (λ _. false)) z)
+        ∙ (let z : n - ((i + 1) - 1)
+        ≡ suc (n - (i + 1)) = omega arith in ap
+        (λ (m : ℕ). if (ltb (cell (span w from to) p) (cell (span w from to) (p + step))) (λ _. ascending (every (span w from to) step (p + step) m))
+        (λ _. false)) z)
         ∙ ap ascending (every-at (span w from to) step p (suc (suc (n - (i + 1)))) (n - (i - 1)) (omega (arith, inv .first)))
         ∙ inv .is
 

@@ -11,7 +11,8 @@ use borrow.Author.Tests.{eq-eqb, ne-eqb}
 use Rattle.cells.specs.Part.{cell, part, if}
 use Rattle.cells.proofs.Parts.{run-length}
 use Rattle.rules.specs.Plain.{both, ascending}
-use Rattle.rules.specs.Table.{Entry, var, prim, tyvar, list, fn, set, neg, named, inter, union, frozen, attrAt, entryOf, fieldsAt, dynIds, dynPlace, openPlace, fieldTypes, fieldKeys, asSet, keysAscend, weight}
+use Rattle.rules.specs.Table.{Entry, var, prim, tyvar, list, fn, set, neg, named, inter, union, frozen, attrAt, entryOf, fieldsAt, dynIds, dynPlace, openPlace}
+use Rattle.rules.specs.Table.{fieldTypes, fieldKeys, asSet, keysAscend, weight}
 use Rattle.text.specs.Reads.{span}
 use Rattle.table.specs.declared.rows.Places.{Places}
 use Rattle.table.specs.Rows.{At, every, Ascend, Present, PlacedIn, Placed, PlainWeight, Weight, KeysAscend}
@@ -54,7 +55,8 @@ unfolding entryOf
 by-kind row k e = ap (λ (j : ℕ). entryBy j row) (sym e)
 
 -- one of the kinds without ids and keys
-pub poor : (P : Entry → Type 0) (k : ℕ) (row : List ℕ) → P (prim (cell row 1)) → P (tyvar (cell row 1)) → P frozen → (k ≡ 2 → ⊥) → (k ≡ 5 → ⊥) → (k ≡ 6 → ⊥) → (k ≡ 7 → ⊥) → (k ≡ 8 → ⊥) → (k ≡ 9 → ⊥) → (k ≡ 10 → ⊥) → (k ≡ 11 → ⊥) → P (entryBy k row)
+pub poor : (P : Entry → Type 0) (k : ℕ) (row : List ℕ) → P (prim (cell row 1)) → P (tyvar (cell row 1)) → P frozen → (k ≡ 2 → ⊥) → (k ≡ 5 → ⊥) → (k ≡ 6 → ⊥)
+    → (k ≡ 7 → ⊥) → (k ≡ 8 → ⊥) → (k ≡ 9 → ⊥) → (k ≡ 10 → ⊥) → (k ≡ 11 → ⊥) → P (entryBy k row)
 poor P k row p t f a b c d e g h i =
     simp (ne-eqb k 2 a, ne-eqb k 5 b, ne-eqb k 6 c, ne-eqb k 7 d, ne-eqb k 8 e, ne-eqb k 9 g, ne-eqb k 10 h, ne-eqb k 11 i) (pick (eqb k 3) (eqb k 4))
   where
@@ -98,7 +100,8 @@ present-0 {x} e = record { is = simp (eq-eqb x 0 e); small = omega arith }
 pub present-1 : {x : ℕ} → (x ≡ 0 → ⊥) → Present x 1
 present-1 {x} e = record { is = simp (ne-eqb x 0 e); small = omega arith }
 
-module _ {w : List ℕ} {from to f d o h : ℕ} (a : At w from to 1 f) (b : At w from to (2 + 2 * f) d) (c : At w from to (2 + 2 * f + 1 + d + 1) o) (g : Present d h) (sf : f < 4294967296) (sd : d < 4294967296) (so : o < 4294967296) where
+module _ {w : List ℕ} {from to f d o h : ℕ} (a : At w from to 1 f) (b : At w from to (2 + 2 * f) d) (c : At w from to (2 + 2 * f + 1 + d + 1) o)
+    (g : Present d h) (sf : f < 4294967296) (sd : d < 4294967296) (so : o < 4294967296) where
   pub places-are : Placed w from to (record { fields = f; dynamic = 2 + 2 * f; held = h; opens = 2 + 2 * f + 1 + d; optional = o })
   places-are =
       let x = a .is in

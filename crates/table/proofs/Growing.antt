@@ -30,7 +30,9 @@ pub begun-in-order : (stage sec : ℕ) → inOrder stage (suc sec) ≡ true → 
 begun-in-order stage sec h = ⊎-elim (λ q. absurd (let e = q .1 in let z : ⊥ = omega arith in z)) (λ q. q) (in-order stage (suc sec) h)
 
 -- equal parts make an equal table
-pub built : {b b′ : ℕ} {n n′ e e′ p p′ m m′ r r′ : List (List ℕ)} → b ≡ b′ → n ≡ n′ → e ≡ e′ → p ≡ p′ → m ≡ m′ → r ≡ r′ → _≡_ {A = rules.Sections} (record { budget = b; names = n; entries = e; pairs = p; marks = m; roots = r }) (record { budget = b′; names = n′; entries = e′; pairs = p′; marks = m′; roots = r′ })
+pub built : {b b′ : ℕ} {n n′ e e′ p p′ m m′ r r′ : List (List ℕ)} → b ≡ b′ → n ≡ n′ → e ≡ e′ → p ≡ p′ → m ≡ m′ → r ≡ r′
+    → _≡_ {A = rules.Sections} (record { budget = b; names = n; entries = e; pairs = p; marks = m; roots = r })
+    (record { budget = b′; names = n′; entries = e′; pairs = p′; marks = m′; roots = r′ })
 built x n e p m r = λ i. record { budget = x i; names = n i; entries = e i; pairs = p i; marks = m i; roots = r i }
 
 pub bare-snoc : (rs : List (List ℕ)) (r : List ℕ) → bare (rs ++ (r ∷ [])) ≡ bare rs ++ (drop 1 r ∷ [])
@@ -83,7 +85,8 @@ module _ (p : Progress) (w : List ℕ) (to : ℕ) (l : Layout p w) (few : p .lin
         let first : rowAt w 0 ≡ rowAt (noted w (p .lines + 1) to) 0 = sym (old-row 0 (omega arith)) in
         simp (ne-eqb (p .stage) 0 h) (ap (λ (r : List ℕ). cell r 1) first)
 
-    late : (sec : ℕ) → 5 ≤ sec → (p .stage ≡ 0 → ⊥) → addRow (tableAt (budgetBy (p .stage) w) (p .table) w) sec (span w (p .top) to) ≡ tableAt (budgetBy (stageAfter sec) (noted w (p .lines + 1) to)) (countRow (p .table) sec) (noted w (p .lines + 1) to)
+    late : (sec : ℕ) → 5 ≤ sec → (p .stage ≡ 0 → ⊥) → addRow (tableAt (budgetBy (p .stage) w) (p .table) w) sec (span w (p .top) to)
+        ≡ tableAt (budgetBy (stageAfter sec) (noted w (p .lines + 1) to)) (countRow (p .table) sec) (noted w (p .lines + 1) to)
     late sec five h =
         let b = f .begun h in
         simp (ne-eqb sec 0 (λ e. omega arith), ne-eqb sec 1 (λ e. omega arith), ne-eqb sec 2 (λ e. omega arith), ne-eqb sec 3 (λ e. omega arith), ne-eqb sec 4 (λ e. omega arith))
@@ -95,7 +98,8 @@ module _ (p : Progress) (w : List ℕ) (to : ℕ) (l : Layout p w) (few : p .lin
         (gain-bare (1 + p .table .names + p .table .entries + p .table .pairs + p .table .marks) (p .table .roots) (omega arith)))
 
     -- the table that the rows are, with one row more
-    pub grown : (sec : ℕ) → inOrder (p .stage) sec ≡ true → addRow (tableAt (budgetBy (p .stage) w) (p .table) w) sec (span w (p .top) to) ≡ tableAt (budgetBy (stageAfter sec) (noted w (p .lines + 1) to)) (countRow (p .table) sec) (noted w (p .lines + 1) to)
+    pub grown : (sec : ℕ) → inOrder (p .stage) sec ≡ true → addRow (tableAt (budgetBy (p .stage) w) (p .table) w) sec (span w (p .top) to)
+        ≡ tableAt (budgetBy (stageAfter sec) (noted w (p .lines + 1) to)) (countRow (p .table) sec) (noted w (p .lines + 1) to)
     grown zero h =
         let o : p .stage ≡ 0 = ⊎-elim (λ q. q .0) (λ q. omega (arith, q .1)) (in-order (p .stage) 0 h) in
         let z = f .unbegun o in
@@ -103,9 +107,12 @@ module _ (p : Progress) (w : List ℕ) (to : ℕ) (l : Layout p w) (few : p .lin
         built (ap (λ (r : List ℕ). cell r 1) first)
         (ap bare (empty (rowAt w) (rowAt (noted w (p .lines + 1) to)) 1 1 (p .table .names) (f .no-names (omega arith))))
         (empty (rowAt w) (rowAt (noted w (p .lines + 1) to)) (1 + p .table .names) (1 + p .table .names) (p .table .entries) (f .no-entries (omega arith)))
-        (ap bare (empty (rowAt w) (rowAt (noted w (p .lines + 1) to)) (1 + p .table .names + p .table .entries) (1 + p .table .names + p .table .entries) (p .table .pairs) (f .no-pairs (omega arith))))
-        (ap bare (empty (rowAt w) (rowAt (noted w (p .lines + 1) to)) (1 + p .table .names + p .table .entries + p .table .pairs) (1 + p .table .names + p .table .entries + p .table .pairs) (p .table .marks) (f .no-marks (omega arith))))
-        (ap bare (empty (rowAt w) (rowAt (noted w (p .lines + 1) to)) (1 + p .table .names + p .table .entries + p .table .pairs + p .table .marks) (1 + p .table .names + p .table .entries + p .table .pairs + p .table .marks) (p .table .roots) (f .no-roots (omega arith))))
+        (ap bare (empty (rowAt w) (rowAt (noted w (p .lines + 1) to)) (1 + p .table .names + p .table .entries) (1 + p .table .names + p .table .entries)
+        (p .table .pairs) (f .no-pairs (omega arith))))
+        (ap bare (empty (rowAt w) (rowAt (noted w (p .lines + 1) to)) (1 + p .table .names + p .table .entries + p .table .pairs)
+        (1 + p .table .names + p .table .entries + p .table .pairs) (p .table .marks) (f .no-marks (omega arith))))
+        (ap bare (empty (rowAt w) (rowAt (noted w (p .lines + 1) to)) (1 + p .table .names + p .table .entries + p .table .pairs + p .table .marks)
+        (1 + p .table .names + p .table .entries + p .table .pairs + p .table .marks) (p .table .roots) (f .no-roots (omega arith))))
     grown (suc zero) h =
         let o = begun-in-order (p .stage) 0 h in
         let b = f .begun (o .0) in
@@ -118,8 +125,10 @@ module _ (p : Progress) (w : List ℕ) (to : ℕ) (l : Layout p w) (few : p .lin
         (gain-bare 1 (p .table .names) (omega arith))
         (empty (rowAt w) (rowAt (noted w (p .lines + 1) to)) (1 + p .table .names) (1 + (p .table .names + 1)) (p .table .entries) ze)
         (ap bare (empty (rowAt w) (rowAt (noted w (p .lines + 1) to)) (1 + p .table .names + p .table .entries) (1 + (p .table .names + 1) + p .table .entries) (p .table .pairs) zp))
-        (ap bare (empty (rowAt w) (rowAt (noted w (p .lines + 1) to)) (1 + p .table .names + p .table .entries + p .table .pairs) (1 + (p .table .names + 1) + p .table .entries + p .table .pairs) (p .table .marks) zm))
-        (ap bare (empty (rowAt w) (rowAt (noted w (p .lines + 1) to)) (1 + p .table .names + p .table .entries + p .table .pairs + p .table .marks) (1 + (p .table .names + 1) + p .table .entries + p .table .pairs + p .table .marks) (p .table .roots) zr))
+        (ap bare (empty (rowAt w) (rowAt (noted w (p .lines + 1) to)) (1 + p .table .names + p .table .entries + p .table .pairs)
+        (1 + (p .table .names + 1) + p .table .entries + p .table .pairs) (p .table .marks) zm))
+        (ap bare (empty (rowAt w) (rowAt (noted w (p .lines + 1) to)) (1 + p .table .names + p .table .entries + p .table .pairs + p .table .marks)
+        (1 + (p .table .names + 1) + p .table .entries + p .table .pairs + p .table .marks) (p .table .roots) zr))
     grown (suc (suc zero)) h =
         let o = begun-in-order (p .stage) 1 h in
         let b = f .begun (o .0) in
@@ -131,8 +140,10 @@ module _ (p : Progress) (w : List ℕ) (to : ℕ) (l : Layout p w) (few : p .lin
         (ap bare (keep 1 (p .table .names) (omega arith)))
         (gain (1 + p .table .names) (p .table .entries) (omega arith))
         (ap bare (empty (rowAt w) (rowAt (noted w (p .lines + 1) to)) (1 + p .table .names + p .table .entries) (1 + p .table .names + (p .table .entries + 1)) (p .table .pairs) zp))
-        (ap bare (empty (rowAt w) (rowAt (noted w (p .lines + 1) to)) (1 + p .table .names + p .table .entries + p .table .pairs) (1 + p .table .names + (p .table .entries + 1) + p .table .pairs) (p .table .marks) zm))
-        (ap bare (empty (rowAt w) (rowAt (noted w (p .lines + 1) to)) (1 + p .table .names + p .table .entries + p .table .pairs + p .table .marks) (1 + p .table .names + (p .table .entries + 1) + p .table .pairs + p .table .marks) (p .table .roots) zr))
+        (ap bare (empty (rowAt w) (rowAt (noted w (p .lines + 1) to)) (1 + p .table .names + p .table .entries + p .table .pairs)
+        (1 + p .table .names + (p .table .entries + 1) + p .table .pairs) (p .table .marks) zm))
+        (ap bare (empty (rowAt w) (rowAt (noted w (p .lines + 1) to)) (1 + p .table .names + p .table .entries + p .table .pairs + p .table .marks)
+        (1 + p .table .names + (p .table .entries + 1) + p .table .pairs + p .table .marks) (p .table .roots) zr))
     grown (suc (suc (suc zero))) h =
         let o = begun-in-order (p .stage) 2 h in
         let b = f .begun (o .0) in
@@ -143,8 +154,10 @@ module _ (p : Progress) (w : List ℕ) (to : ℕ) (l : Layout p w) (few : p .lin
         (ap bare (keep 1 (p .table .names) (omega arith)))
         (keep (1 + p .table .names) (p .table .entries) (omega arith))
         (gain-bare (1 + p .table .names + p .table .entries) (p .table .pairs) (omega arith))
-        (ap bare (empty (rowAt w) (rowAt (noted w (p .lines + 1) to)) (1 + p .table .names + p .table .entries + p .table .pairs) (1 + p .table .names + p .table .entries + (p .table .pairs + 1)) (p .table .marks) zm))
-        (ap bare (empty (rowAt w) (rowAt (noted w (p .lines + 1) to)) (1 + p .table .names + p .table .entries + p .table .pairs + p .table .marks) (1 + p .table .names + p .table .entries + (p .table .pairs + 1) + p .table .marks) (p .table .roots) zr))
+        (ap bare (empty (rowAt w) (rowAt (noted w (p .lines + 1) to)) (1 + p .table .names + p .table .entries + p .table .pairs)
+        (1 + p .table .names + p .table .entries + (p .table .pairs + 1)) (p .table .marks) zm))
+        (ap bare (empty (rowAt w) (rowAt (noted w (p .lines + 1) to)) (1 + p .table .names + p .table .entries + p .table .pairs + p .table .marks)
+        (1 + p .table .names + p .table .entries + (p .table .pairs + 1) + p .table .marks) (p .table .roots) zr))
     grown (suc (suc (suc (suc zero)))) h =
         let o = begun-in-order (p .stage) 3 h in
         let b = f .begun (o .0) in
@@ -155,12 +168,21 @@ module _ (p : Progress) (w : List ℕ) (to : ℕ) (l : Layout p w) (few : p .lin
         (keep (1 + p .table .names) (p .table .entries) (omega arith))
         (ap bare (keep (1 + p .table .names + p .table .entries) (p .table .pairs) (omega arith)))
         (gain-bare (1 + p .table .names + p .table .entries + p .table .pairs) (p .table .marks) (omega arith))
-        (ap bare (empty (rowAt w) (rowAt (noted w (p .lines + 1) to)) (1 + p .table .names + p .table .entries + p .table .pairs + p .table .marks) (1 + p .table .names + p .table .entries + p .table .pairs + (p .table .marks + 1)) (p .table .roots) zr))
+        (ap bare (empty (rowAt w) (rowAt (noted w (p .lines + 1) to)) (1 + p .table .names + p .table .entries + p .table .pairs + p .table .marks)
+        (1 + p .table .names + p .table .entries + p .table .pairs + (p .table .marks + 1)) (p .table .roots) zr))
     grown (suc (suc (suc (suc (suc n))))) h = late (suc (suc (suc (suc (suc n))))) (omega arith) (begun-in-order (p .stage) (suc (suc (suc (suc n)))) h .0)
 
 -- the counts, with one row more
 module _ (p : Progress) (f : Fine p) (x to : ℕ) where
-  late-counts : (sec : ℕ) → 5 ≤ sec → advanceBy p sec x to ≡ record { stage = sec; lines = p .lines + 1; top = to; ids = p .ids + x; table = record { names = p .table .names; entries = p .table .entries; pairs = p .table .pairs; marks = p .table .marks; roots = p .table .roots + 1 } }
+  late-counts : (sec : ℕ) → 5 ≤ sec → advanceBy p sec x to
+      ≡ record {
+        stage = sec;
+        lines = p .lines + 1;
+        top = to;
+        ids = p .ids + x;
+        table = record
+            { names = p .table .names; entries = p .table .entries; pairs = p .table .pairs; marks = p .table .marks; roots = p .table .roots + 1 };
+      }
   late-counts sec five = simp (ne-eqb sec 0 (λ e. omega arith), ne-eqb sec 1 (λ e. omega arith), ne-eqb sec 2 (λ e. omega arith), ne-eqb sec 3 (λ e. omega arith), ne-eqb sec 4 (λ e. omega arith))
 
   pub fine-grown : (sec : ℕ) → inOrder (p .stage) sec ≡ true → Few (advanceBy p sec x to .table) → p .ids + x ≤ mostIds → to ≤ tableLength → Fine (advanceBy p sec x to)
@@ -172,7 +194,19 @@ module _ (p : Progress) (f : Fine p) (x to : ℕ) where
       let zp = f .no-pairs (omega arith) in
       let zm = f .no-marks (omega arith) in
       let zr = f .no-roots (omega arith) in
-      record { few = few; few-ids = ids; low = low; few-lines = omega arith; unbegun = λ e. omega arith; begun = λ e. omega arith; no-names = λ e. omega arith; no-entries = λ e. omega arith; no-pairs = λ e. omega arith; no-marks = λ e. omega arith; no-roots = λ e. omega arith }
+      record {
+        few = few;
+        few-ids = ids;
+        low = low;
+        few-lines = omega arith;
+        unbegun = λ e. omega arith;
+        begun = λ e. omega arith;
+        no-names = λ e. omega arith;
+        no-entries = λ e. omega arith;
+        no-pairs = λ e. omega arith;
+        no-marks = λ e. omega arith;
+        no-roots = λ e. omega arith;
+      }
   fine-grown (suc zero) h few ids low =
       let o = begun-in-order (p .stage) 0 h in
       let b = f .begun (o .0) in
@@ -181,7 +215,19 @@ module _ (p : Progress) (f : Fine p) (x to : ℕ) where
       let zp = f .no-pairs (omega arith) in
       let zm = f .no-marks (omega arith) in
       let zr = f .no-roots (omega arith) in
-      record { few = few; few-ids = ids; low = low; few-lines = omega arith; unbegun = λ e. omega arith; begun = λ e. omega arith; no-names = λ e. omega arith; no-entries = λ e. omega arith; no-pairs = λ e. omega arith; no-marks = λ e. omega arith; no-roots = λ e. omega arith }
+      record {
+        few = few;
+        few-ids = ids;
+        low = low;
+        few-lines = omega arith;
+        unbegun = λ e. omega arith;
+        begun = λ e. omega arith;
+        no-names = λ e. omega arith;
+        no-entries = λ e. omega arith;
+        no-pairs = λ e. omega arith;
+        no-marks = λ e. omega arith;
+        no-roots = λ e. omega arith;
+      }
   fine-grown (suc (suc zero)) h few ids low =
       let o = begun-in-order (p .stage) 1 h in
       let b = f .begun (o .0) in
@@ -189,30 +235,85 @@ module _ (p : Progress) (f : Fine p) (x to : ℕ) where
       let zp = f .no-pairs (omega arith) in
       let zm = f .no-marks (omega arith) in
       let zr = f .no-roots (omega arith) in
-      record { few = few; few-ids = ids; low = low; few-lines = omega arith; unbegun = λ e. omega arith; begun = λ e. omega arith; no-names = λ e. omega arith; no-entries = λ e. omega arith; no-pairs = λ e. omega arith; no-marks = λ e. omega arith; no-roots = λ e. omega arith }
+      record {
+        few = few;
+        few-ids = ids;
+        low = low;
+        few-lines = omega arith;
+        unbegun = λ e. omega arith;
+        begun = λ e. omega arith;
+        no-names = λ e. omega arith;
+        no-entries = λ e. omega arith;
+        no-pairs = λ e. omega arith;
+        no-marks = λ e. omega arith;
+        no-roots = λ e. omega arith;
+      }
   fine-grown (suc (suc (suc zero))) h few ids low =
       let o = begun-in-order (p .stage) 2 h in
       let b = f .begun (o .0) in
       let le = o .1 in
       let zm = f .no-marks (omega arith) in
       let zr = f .no-roots (omega arith) in
-      record { few = few; few-ids = ids; low = low; few-lines = omega arith; unbegun = λ e. omega arith; begun = λ e. omega arith; no-names = λ e. omega arith; no-entries = λ e. omega arith; no-pairs = λ e. omega arith; no-marks = λ e. omega arith; no-roots = λ e. omega arith }
+      record {
+        few = few;
+        few-ids = ids;
+        low = low;
+        few-lines = omega arith;
+        unbegun = λ e. omega arith;
+        begun = λ e. omega arith;
+        no-names = λ e. omega arith;
+        no-entries = λ e. omega arith;
+        no-pairs = λ e. omega arith;
+        no-marks = λ e. omega arith;
+        no-roots = λ e. omega arith;
+      }
   fine-grown (suc (suc (suc (suc zero)))) h few ids low =
       let o = begun-in-order (p .stage) 3 h in
       let b = f .begun (o .0) in
       let le = o .1 in
       let zr = f .no-roots (omega arith) in
-      record { few = few; few-ids = ids; low = low; few-lines = omega arith; unbegun = λ e. omega arith; begun = λ e. omega arith; no-names = λ e. omega arith; no-entries = λ e. omega arith; no-pairs = λ e. omega arith; no-marks = λ e. omega arith; no-roots = λ e. omega arith }
+      record {
+        few = few;
+        few-ids = ids;
+        low = low;
+        few-lines = omega arith;
+        unbegun = λ e. omega arith;
+        begun = λ e. omega arith;
+        no-names = λ e. omega arith;
+        no-entries = λ e. omega arith;
+        no-pairs = λ e. omega arith;
+        no-marks = λ e. omega arith;
+        no-roots = λ e. omega arith;
+      }
   fine-grown (suc (suc (suc (suc (suc n))))) h few ids low =
       let e = late-counts (suc (suc (suc (suc (suc n))))) (omega arith) in
       let o = begun-in-order (p .stage) (suc (suc (suc (suc n)))) h in
       let b = f .begun (o .0) in
-      let g : Few (record { names = p .table .names; entries = p .table .entries; pairs = p .table .pairs; marks = p .table .marks; roots = p .table .roots + 1 }) = subst (λ (q : Progress). Few (q .table)) e few in
+      let g : Few (record {
+        names = p .table .names;
+        entries = p .table .entries;
+        pairs = p .table .pairs;
+        marks = p .table .marks;
+        roots = p .table .roots + 1;
+      }) = subst (λ (q : Progress). Few (q .table)) e few in
       subst Fine (sym e)
-      (record { few = g; few-ids = ids; low = low; few-lines = omega arith; unbegun = λ e. omega arith; begun = λ e. omega arith; no-names = λ e. omega arith; no-entries = λ e. omega arith; no-pairs = λ e. omega arith; no-marks = λ e. omega arith; no-roots = λ e. omega arith })
+      (record {
+        few = g;
+        few-ids = ids;
+        low = low;
+        few-lines = omega arith;
+        unbegun = λ e. omega arith;
+        begun = λ e. omega arith;
+        no-names = λ e. omega arith;
+        no-entries = λ e. omega arith;
+        no-pairs = λ e. omega arith;
+        no-marks = λ e. omega arith;
+        no-roots = λ e. omega arith;
+      })
 
 -- the places, with one row more
-module _ (p : Progress) (w : List ℕ) (to : ℕ) (l : Layout p w) (few : p .lines + 1 ≤ mostLines) (room : tableLength ≤ length w) (up : p .top ≤ to) (q : Progress) (lines : q .lines ≡ p .lines + 1) (top : q .top ≡ to) where
+module _ (p : Progress) (w : List ℕ) (to : ℕ) (l : Layout p w) (few : p .lines + 1 ≤ mostLines) (room : tableLength ≤ length w) (up : p .top ≤ to)
+    (q : Progress) (lines : q .lines ≡ p .lines + 1) (top : q .top ≡ to) where
   same : (i : ℕ) → i ≤ p .lines → beginAt (noted w (p .lines + 1) to) i ≡ beginAt w i
   same = old p w to l few room
 
@@ -222,7 +323,11 @@ module _ (p : Progress) (w : List ℕ) (to : ℕ) (l : Layout p w) (few : p .lin
   pub laid-grown : Layout q (noted w (p .lines + 1) to)
   laid-grown = record {
     ends = last (q .lines) lines ∙ sym top;
-    order = λ i h. ⊎-elim (λ e. let a = same i (omega arith) in let b = last (i + 1) (omega arith) in let c = ap (beginAt w) e in omega (arith, l .ends)) (λ lt. let a = same i (omega arith) in let b = same (i + 1) (omega arith) in omega (arith, l .order i lt)) (let le : i ≤ p .lines = omega arith in eq-or-lt-of-le le);
-    behind = λ i h. ⊎-elim (λ e. let a = last i e in omega (arith, l .behind (p .lines) (omega arith), l .ends)) (λ lt. let a = same i (omega arith) in omega (arith, l .behind i (omega arith))) (let le : i ≤ p .lines + 1 = omega arith in eq-or-lt-of-le le);
-    within = λ i h. ⊎-elim (λ e. let a = last i e in omega arith) (λ lt. let a = same i (omega arith) in omega (arith, l .within i (omega arith))) (let le : i ≤ p .lines + 1 = omega arith in eq-or-lt-of-le le);
+    order = λ i h. ⊎-elim (λ e. let a = same i (omega arith) in let b = last (i + 1) (omega arith) in let c = ap (beginAt w) e in omega (arith, l .ends))
+        (λ lt. let a = same i (omega arith) in let b = same (i + 1) (omega arith) in omega (arith, l .order i lt))
+        (let le : i ≤ p .lines = omega arith in eq-or-lt-of-le le);
+    behind = λ i h. ⊎-elim (λ e. let a = last i e in omega (arith, l .behind (p .lines) (omega arith), l .ends))
+        (λ lt. let a = same i (omega arith) in omega (arith, l .behind i (omega arith))) (let le : i ≤ p .lines + 1 = omega arith in eq-or-lt-of-le le);
+    within = λ i h. ⊎-elim (λ e. let a = last i e in omega arith) (λ lt. let a = same i (omega arith) in omega (arith, l .within i (omega arith)))
+        (let le : i ≤ p .lines + 1 = omega arith in eq-or-lt-of-le le);
   }

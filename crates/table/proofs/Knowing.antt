@@ -15,7 +15,8 @@ use Rattle.text.specs.Reads.{span}
 use Rattle.table.specs.declared.Table.{Table}
 use Rattle.table.specs.declared.rows.Places.{Places}
 use Rattle.table.specs.declared.Answer.the-variants.{Accepted, Refused}
-use Rattle.table.specs.Rows.{beginAt, Begin, At, every, Below, PlacedIn, Placed, VarKnown, SetKnown, KeysKnown, NamedKnown, PlainKnown, EntryKnown, rowAt, bare, passing, EntriesKnown, RootsKnown}
+use Rattle.table.specs.Rows.{beginAt, Begin, At, every, Below, PlacedIn, Placed, VarKnown, SetKnown, KeysKnown, NamedKnown, PlainKnown, EntryKnown, rowAt, bare}
+use Rattle.table.specs.Rows.{passing, EntriesKnown, RootsKnown}
 use Rattle.table.proofs.Entries.{part-every, entryBy, by-kind, poor, set-keys, set-types, set-optional, set-dyn}
 
 both-if : (b x : Bool) (a c : Bool) → a ≡ both c (λ _. x) → if b (λ _. a) (λ _. false) ≡ both (if b (λ _. c) (λ _. false)) (λ _. x)
@@ -27,7 +28,9 @@ below-append n [] ys = refl
 below-append n (x ∷ xs) ys = both-if (ltb x n) (allBelow n ys) (allBelow n (xs ++ ys)) (allBelow n xs) (below-append n xs ys)
 
 -- a variable's bounds
-var-split : (row : List ℕ) (n a b : ℕ) → a ≡ cell row 1 → b ≡ cell row (2 + a) → allBelow n (kids (var (part row 2 (cell row 1)) (part row (3 + cell row 1) (cell row (2 + cell row 1))))) ≡ both (allBelow n (every row 1 2 a)) (λ _. allBelow n (every row 1 (3 + a) b))
+var-split : (row : List ℕ) (n a b : ℕ) → a ≡ cell row 1 → b ≡ cell row (2 + a)
+    → allBelow n (kids (var (part row 2 (cell row 1)) (part row (3 + cell row 1) (cell row (2 + cell row 1)))))
+    ≡ both (allBelow n (every row 1 2 a)) (λ _. allBelow n (every row 1 (3 + a) b))
 var-split row n a b e f =
     below-append n (part row 2 (cell row 1)) (part row (3 + cell row 1) (cell row (2 + cell row 1)))
     ∙ ap₂ {C = Bool} (λ (l m : List ℕ). both (allBelow n l) (λ _. allBelow n m))
@@ -36,10 +39,17 @@ var-split row n a b e f =
 
 module _ {w : List ℕ} {from to n a : ℕ} {b : Bool} (x : At w from to 1 a) (y : Below w from to 2 1 a n b) where
   pub var-no : b ≡ false → VarKnown w from to n false
-  var-no h = record { is = sym (var-split (span w from to) n a (cell (span w from to) (2 + a)) (x .is) refl ∙ ap (λ (z : Bool). both z (λ _. allBelow n (every (span w from to) 1 (3 + a) (cell (span w from to) (2 + a))))) (sym (y .is) ∙ h)) }
+  var-no h = record {
+    is = sym
+        (var-split (span w from to) n a (cell (span w from to) (2 + a)) (x .is) refl
+        ∙ ap (λ (z : Bool). both z (λ _. allBelow n (every (span w from to) 1 (3 + a) (cell (span w from to) (2 + a))))) (sym (y .is) ∙ h));
+  }
 
   pub var-yes : {c : ℕ} {d : Bool} → b ≡ true → At w from to (2 + a) c → Below w from to (3 + a) 1 c n d → VarKnown w from to n d
-  var-yes {c} h u v = record { is = v .is ∙ sym (var-split (span w from to) n a c (x .is) (u .is) ∙ ap (λ (z : Bool). both z (λ _. allBelow n (every (span w from to) 1 (3 + a) c))) (sym (y .is) ∙ h)) }
+  var-yes {c} h u v = record {
+    is = v .is ∙ sym (var-split (span w from to) n a c (x .is) (u .is)
+        ∙ ap (λ (z : Bool). both z (λ _. allBelow n (every (span w from to) 1 (3 + a) c))) (sym (y .is) ∙ h));
+  }
 
 -- a set's children, and its keys
 module _ (row : List ℕ) (p : Places) (q : PlacedIn row p) (n : ℕ) where
@@ -59,14 +69,21 @@ module _ {w : List ℕ} {from to n : ℕ} {p : Places} {b : Bool} (q : Placed w 
     set-no h = record { is = sym (kids-split (span w from to) p (q .is) n ∙ ap (λ (z : Bool). both z (λ _. allBelow n (every (span w from to) 1 (p .dynamic + 1) (p .held)))) (sym (y .is) ∙ h)) }
 
     pub set-yes : {d : Bool} → b ≡ true → Below w from to (p .dynamic + 1) 1 (p .held) n d → SetKnown w from to n d
-    set-yes h v = record { is = v .is ∙ sym (kids-split (span w from to) p (q .is) n ∙ ap (λ (z : Bool). both z (λ _. allBelow n (every (span w from to) 1 (p .dynamic + 1) (p .held)))) (sym (y .is) ∙ h)) }
+    set-yes h v = record {
+      is = v .is
+          ∙ sym (kids-split (span w from to) p (q .is) n
+          ∙ ap (λ (z : Bool). both z (λ _. allBelow n (every (span w from to) 1 (p .dynamic + 1) (p .held)))) (sym (y .is) ∙ h));
+    }
 
   module _ (y : Below w from to 2 2 (p .fields) n b) where
     pub keyset-no : b ≡ false → KeysKnown w from to n false
     keyset-no h = record { is = sym (keys-split (span w from to) p (q .is) n ∙ ap (λ (z : Bool). both z (λ _. allBelow n (every (span w from to) 1 (p .opens + 2) (p .optional)))) (sym (y .is) ∙ h)) }
 
     pub keyset-yes : {d : Bool} → b ≡ true → Below w from to (p .opens + 2) 1 (p .optional) n d → KeysKnown w from to n d
-    keyset-yes h v = record { is = v .is ∙ sym (keys-split (span w from to) p (q .is) n ∙ ap (λ (z : Bool). both z (λ _. allBelow n (every (span w from to) 1 (p .opens + 2) (p .optional)))) (sym (y .is) ∙ h)) }
+    keyset-yes h v = record {
+      is = v .is ∙ sym (keys-split (span w from to) p (q .is) n
+          ∙ ap (λ (z : Bool). both z (λ _. allBelow n (every (span w from to) 1 (p .opens + 2) (p .optional)))) (sym (y .is) ∙ h));
+    }
 
 module _ {w : List ℕ} {from to n names : ℕ} {b : Bool} (y : Below w from to 2 1 1 n b) where
   pub named-no : b ≡ false → NamedKnown w from to n names false
@@ -98,12 +115,15 @@ module _ {w : List ℕ} {from to kind n names : ℕ} {b : Bool} where
   pub known-9 : kind ≡ 9 → NamedKnown w from to n names b → PlainKnown w from to kind n names b
   known-9 e h = at-kind 9 e (h .is)
 
-pub known-else : {w : List ℕ} {from to kind n names : ℕ} → (kind ≡ 5 → ⊥) → (kind ≡ 8 → ⊥) → (kind ≡ 6 → ⊥) → (kind ≡ 10 → ⊥) → (kind ≡ 11 → ⊥) → (kind ≡ 9 → ⊥) → PlainKnown w from to kind n names true
+pub known-else : {w : List ℕ} {from to kind n names : ℕ} → (kind ≡ 5 → ⊥) → (kind ≡ 8 → ⊥) → (kind ≡ 6 → ⊥) → (kind ≡ 10 → ⊥) → (kind ≡ 11 → ⊥) → (kind ≡ 9 → ⊥)
+    → PlainKnown w from to kind n names true
 known-else {w} {from} {to} {kind} {n} {names} a b c d e f = record {
   is = λ x y q. poor (λ (z : Entry). true ≡ inRange n names z) kind (span w from to) refl refl refl x a c y b f d e ∙ ap (inRange n names) (sym (by-kind (span w from to) kind q));
 }
 
-set-range : (w : List ℕ) (from to n names kind : ℕ) (b : Bool) → At w from to 0 kind → kind ≡ 7 → SetKnown w from to n b → (c : Bool) → b ≡ c → inRange n names (entryOf (span w from to)) ≡ both c (λ _. allBelow names (fieldKeys (attrAt (span w from to) 1 .fields) ++ attrAt (span w from to) 1 .optional))
+set-range : (w : List ℕ) (from to n names kind : ℕ) (b : Bool) → At w from to 0 kind → kind ≡ 7 → SetKnown w from to n b → (c : Bool) → b ≡ c
+    → inRange n names (entryOf (span w from to))
+    ≡ both c (λ _. allBelow names (fieldKeys (attrAt (span w from to) 1 .fields) ++ attrAt (span w from to) 1 .optional))
 set-range w from to n names kind b k e x c h =
     ap (inRange n names) (by-kind (span w from to) 7 (sym e ∙ k .is))
     ∙ ap₂ {C = Bool} (λ (u : Bool) (l : List ℕ). both u (λ _. allBelow names l)) (sym (x .is) ∙ h) (append-nil (fieldKeys (attrAt (span w from to) 1 .fields) ++ attrAt (span w from to) 1 .optional))
@@ -131,7 +151,8 @@ module _ {w : List ℕ} {from to n names kind : ℕ} {b : Bool} (k : At w from t
 known-none : (P : List ℕ → Bool) (w : List ℕ) (k a m : ℕ) → m ≡ 0 → known P k (run (rowAt w) a m) ≡ accepted tt
 known-none P w k a m e = ap (λ (n : ℕ). known P k (run (rowAt w) a n)) e
 
-known-next : (P : List ℕ → Bool) (w : List ℕ) (k a m n : ℕ) (b : Bool) → m ≡ suc n → b ≡ P (rowAt w a) → known P k (run (rowAt w) a m) ≡ if b (λ _. known P (k + 1) (run (rowAt w) (a + 1) n)) (λ _. refused 3 k)
+known-next : (P : List ℕ → Bool) (w : List ℕ) (k a m n : ℕ) (b : Bool) → m ≡ suc n → b ≡ P (rowAt w a) → known P k (run (rowAt w) a m)
+    ≡ if b (λ _. known P (k + 1) (run (rowAt w) (a + 1) n)) (λ _. refused 3 k)
 known-next P w k a m n b e h =
     ap (λ (n : ℕ). known P k (run (rowAt w) a n)) e
     ∙ ap₂ {C = Result (Unit {0})} (λ (i j : ℕ). if (P (rowAt w a)) (λ _. known P i (run (rowAt w) j n)) (λ _. refused 3 k)) (sym (add-one k)) (sym (add-one a))
@@ -149,17 +170,23 @@ entries-start {w} {t} =
     let a : 2 + t .names + 0 ≡ 2 + t .names = omega arith in
     let b : 1 + t .names + 0 ≡ 1 + t .names = omega arith in
     let c : t .entries - 0 ≡ t .entries = omega arith in
-    record { is = ap (λ (k : ℕ). known (entryTest t) k (run (rowAt w) (1 + t .names + 0) (t .entries - 0))) a ∙ ap₂ {C = Result (Unit {0})} (λ (x y : ℕ). known (entryTest t) (2 + t .names) (run (rowAt w) x y)) b c }
+    record {
+      is = ap (λ (k : ℕ). known (entryTest t) k (run (rowAt w) (1 + t .names + 0) (t .entries - 0))) a
+          ∙ ap₂ {C = Result (Unit {0})} (λ (x y : ℕ). known (entryTest t) (2 + t .names) (run (rowAt w) x y)) b c;
+    }
 
 module _ {w : List ℕ} {t : Table} {i : ℕ} (inv : Entries w t i) where
   pub entries-done : t .entries ≤ i → EntriesKnown w t (Accepted t)
   entries-done h = record { is = ap (λ (m : Result (Unit {0})). passing m t w) (sym (known-none (entryTest t) w (2 + t .names + i) (1 + t .names + i) (t .entries - i) (omega arith)) ∙ inv .is) }
 
   module _ {a e : ℕ} {b : Bool} (lt : i < t .entries) (f : Begin w (1 + t .names + i) a) (g : Begin w (2 + t .names + i) e) (h : EntryKnown w a e (t .entries) (t .names) b) where
-    turn : (c : Bool) → b ≡ c → if c (λ _. known (entryTest t) (2 + t .names + i + 1) (run (rowAt w) (1 + t .names + i + 1) (t .entries - (i + 1)))) (λ _. refused 3 (2 + t .names + i)) ≡ known (entryTest t) (2 + t .names) (run (rowAt w) (1 + t .names) (t .entries))
+    turn : (c : Bool) → b ≡ c
+        → if c (λ _. known (entryTest t) (2 + t .names + i + 1) (run (rowAt w) (1 + t .names + i + 1) (t .entries - (i + 1))))
+        (λ _. refused 3 (2 + t .names + i)) ≡ known (entryTest t) (2 + t .names) (run (rowAt w) (1 + t .names) (t .entries))
     turn c q =
         let z : 2 + t .names + i ≡ 1 + t .names + i + 1 = omega arith in
-        sym (known-next (entryTest t) w (2 + t .names + i) (1 + t .names + i) (t .entries - i) (t .entries - (i + 1)) c (omega arith) (sym q ∙ h .is ∙ ap₂ {C = Bool} (λ (x y : ℕ). entryTest t (span w x y)) (f .is) (g .is ∙ ap (beginAt w) z)))
+        sym (known-next (entryTest t) w (2 + t .names + i) (1 + t .names + i) (t .entries - i) (t .entries - (i + 1)) c (omega arith)
+        (sym q ∙ h .is ∙ ap₂ {C = Bool} (λ (x y : ℕ). entryTest t (span w x y)) (f .is) (g .is ∙ ap (beginAt w) z)))
         ∙ inv .is
 
     pub entries-no : b ≡ false → EntriesKnown w t (Refused 3 (2 + t .names + i))
@@ -197,7 +224,8 @@ root-tested : (t : Table) (row : List ℕ) → allBelow (t .entries) (cell row 1
 root-tested t row = if-self (ltb (cell row 1) (t .entries)) ∙ ap (λ (x : ℕ). ltb x (t .entries)) (sym (second row))
 
 pub record Roots (w : List ℕ) (t : Table) (i : ℕ) : Type 0 where
-  pub is : known (wholeTest t) (rootRow t + i + 1) (run (rowAt w) (rootRow t + i) (t .roots - i)) ≡ known (rootTest t) (2 + t .names + t .entries + t .pairs + t .marks) (bare (run (rowAt w) (rootRow t) (t .roots)))
+  pub is : known (wholeTest t) (rootRow t + i + 1) (run (rowAt w) (rootRow t + i) (t .roots - i))
+      ≡ known (rootTest t) (2 + t .names + t .entries + t .pairs + t .marks) (bare (run (rowAt w) (rootRow t) (t .roots)))
 
 pub roots-start : {w : List ℕ} {t : Table} → Roots w t 0
 roots-start {w} {t} =
@@ -219,9 +247,12 @@ module _ {w : List ℕ} {t : Table} {i : ℕ} (inv : Roots w t i) where
   }
 
   module _ {a e : ℕ} {b : Bool} (lt : i < t .roots) (f : Begin w (rootRow t + i) a) (g : Begin w (rootRow t + i + 1) e) (h : Below w a e 1 1 1 (t .entries) b) where
-    turn2 : (c : Bool) → b ≡ c → if c (λ _. known (wholeTest t) (rootRow t + i + 1 + 1) (run (rowAt w) (rootRow t + i + 1) (t .roots - (i + 1)))) (λ _. refused 3 (rootRow t + i + 1)) ≡ known (rootTest t) (2 + t .names + t .entries + t .pairs + t .marks) (bare (run (rowAt w) (rootRow t) (t .roots)))
+    turn2 : (c : Bool) → b ≡ c
+        → if c (λ _. known (wholeTest t) (rootRow t + i + 1 + 1) (run (rowAt w) (rootRow t + i + 1) (t .roots - (i + 1)))) (λ _. refused 3 (rootRow t + i + 1))
+        ≡ known (rootTest t) (2 + t .names + t .entries + t .pairs + t .marks) (bare (run (rowAt w) (rootRow t) (t .roots)))
     turn2 c q =
-        sym (known-next (wholeTest t) w (rootRow t + i + 1) (rootRow t + i) (t .roots - i) (t .roots - (i + 1)) c (omega arith) (sym q ∙ h .is ∙ root-tested t (span w a e) ∙ ap₂ {C = Bool} (λ (x y : ℕ). wholeTest t (span w x y)) (f .is) (g .is)))
+        sym (known-next (wholeTest t) w (rootRow t + i + 1) (rootRow t + i) (t .roots - i) (t .roots - (i + 1)) c (omega arith)
+        (sym q ∙ h .is ∙ root-tested t (span w a e) ∙ ap₂ {C = Bool} (λ (x y : ℕ). wholeTest t (span w x y)) (f .is) (g .is)))
         ∙ inv .is
 
     pub roots-no : b ≡ false → RootsKnown w t (Refused 3 (rootRow t + i + 1))

@@ -25,7 +25,8 @@ use Rattle.table.specs.declared.judging.Progress.{Progress}
 use Rattle.table.specs.declared.Answer.the-variants.{Accepted, Refused}
 use Rattle.table.specs.declared.judging.Verdict.{Verdict}
 use Rattle.table.specs.declared.judging.Verdict.the-variants.{Taken as TakenV, Fault}
-use Rattle.table.specs.Rows.{mostLines, beginAt, Few, countRow, overBy, ascendsBy, Fine, advanceBy, Admitted, Judged, tableFrom, readingOf, takenOf, Layout, Ready, Kinds, Went, Goes, Apart, Lined, untouched, Unread, Begun, Lines}
+use Rattle.table.specs.Rows.{mostLines, beginAt, Few, countRow, overBy, ascendsBy, Fine, advanceBy, Admitted, Judged, tableFrom, readingOf, takenOf, Layout}
+use Rattle.table.specs.Rows.{Ready, Kinds, Went, Goes, Apart, Lined, untouched, Unread, Begun, Lines}
 use Rattle.table.proofs.Growing.{grown, fine-grown, laid-grown}
 use Rattle.table.proofs.Admitting.{reading-same, layout-same, said, passed, admitted-by}
 use mathlib.Core.Option.{Option}
@@ -54,7 +55,8 @@ module _ {text w w′ : List ℕ} {from to : ℕ} {p : Progress} {r : Got} (h : 
   }
 
 -- what the rules say of a line, by its row
-step-is : (text w w′ : List ℕ) (from to : ℕ) (p : Progress) (r : Got) (t : ℕ) → Ready text from to w p → Row kinds text from to (p .top) w w′ r → r ≡ To t → admit (readingOf p w′) (sectionOf (cell (span w′ (p .top) t) 0)) (span w′ (p .top) t) ≡ step (readingOf p w) (span text from to)
+step-is : (text w w′ : List ℕ) (from to : ℕ) (p : Progress) (r : Got) (t : ℕ) → Ready text from to w p → Row kinds text from to (p .top) w w′ r → r ≡ To t
+    → admit (readingOf p w′) (sectionOf (cell (span w′ (p .top) t) 0)) (span w′ (p .top) t) ≡ step (readingOf p w) (span text from to)
 unfolding step
 step-is text w w′ from to p r t h x e =
     ap₂ {C = Admission} (λ (q : Reading) (m : Option (List ℕ)). inForm q m) (sym (reading-same p w w′ (h .fine) (h .layout) (x .wrote .above))) (ap (gotWords (p .top) w′) (sym e) ∙ x .wrote .is)
@@ -62,7 +64,8 @@ step-is text w w′ from to p r t h x e =
 bounds : (text w w′ : List ℕ) (from to : ℕ) (p : Progress) (r : Got) (t : ℕ) → Row kinds text from to (p .top) w w′ r → r ≡ To t → Ends (p .top) (to - from + 1) (To t)
 bounds text w w′ from to p r t x e = subst (Ends (p .top) (to - from + 1)) e (x .wrote .ends)
 
-module _ {text w w′ : List ℕ} {from to : ℕ} {p : Progress} {r : Got} {t : ℕ} {v : Verdict} (h : Ready text from to w p) (x : Row kinds text from to (p .top) w w′ r) (e : r ≡ To t) (j : Judged p w′ t v) where
+module _ {text w w′ : List ℕ} {from to : ℕ} {p : Progress} {r : Got} {t : ℕ} {v : Verdict} (h : Ready text from to w p)
+    (x : Row kinds text from to (p .top) w w′ r) (e : r ≡ To t) (j : Judged p w′ t v) where
   pub line-fault : {k : ℕ} → v ≡ Fault k → Lined text from to p w w′ (Fault k)
   line-fault {k} q = record {
     is =
@@ -77,10 +80,12 @@ module _ {text w w′ : List ℕ} {from to : ℕ} {p : Progress} {r : Got} {t : 
     told : Admitted p t (TakenV q)
     told = subst (Admitted p t) g (j .admitted)
 
-    how : (inOrder (p .stage) (sectionOf (cell (span w′ (p .top) t) 0)) ≡ true) × (q ≡ advanceBy p (sectionOf (cell (span w′ (p .top) t) 0)) (rowWeight (sectionOf (cell (span w′ (p .top) t) 0)) (span w′ (p .top) t)) t)
+    how : (inOrder (p .stage) (sectionOf (cell (span w′ (p .top) t) 0)) ≡ true)
+        × (q ≡ advanceBy p (sectionOf (cell (span w′ (p .top) t) 0)) (rowWeight (sectionOf (cell (span w′ (p .top) t) 0)) (span w′ (p .top) t)) t)
     how =
         passed (inOrder (p .stage) (sectionOf (cell (span w′ (p .top) t) 0)))
-        (overBy (countRow (p .table) (sectionOf (cell (span w′ (p .top) t) 0))) (p .ids + rowWeight (sectionOf (cell (span w′ (p .top) t) 0)) (span w′ (p .top) t)) (sectionOf (cell (span w′ (p .top) t) 0)) ((t - p .top) - 1))
+        (overBy (countRow (p .table) (sectionOf (cell (span w′ (p .top) t) 0)))
+        (p .ids + rowWeight (sectionOf (cell (span w′ (p .top) t) 0)) (span w′ (p .top) t)) (sectionOf (cell (span w′ (p .top) t) 0)) ((t - p .top) - 1))
         (ascendsBy p w′ t (sectionOf (cell (span w′ (p .top) t) 0)))
         (eqb (cell (span w′ (p .top) t) 0) frozenEntry)
         q
@@ -92,7 +97,8 @@ module _ {text w w′ : List ℕ} {from to : ℕ} {p : Progress} {r : Got} {t : 
         let b = bounds text w w′ from to p r t x e in
         let ids : p .ids + rowWeight (sectionOf (cell (span w′ (p .top) t) 0)) (span w′ (p .top) t) ≤ mostIds = subst (λ (n : Progress). n .ids ≤ mostIds) (how .1) (told .few-ids) in
         subst Fine (sym (how .1))
-        (fine-grown p (h .fine) (rowWeight (sectionOf (cell (span w′ (p .top) t) 0)) (span w′ (p .top) t)) t (sectionOf (cell (span w′ (p .top) t) 0)) (how .0) (subst (λ (n : Progress). Few (n .table)) (how .1) (told .few)) ids (omega (arith, b .1, h .low, h .ended, h .short, h .order)))
+        (fine-grown p (h .fine) (rowWeight (sectionOf (cell (span w′ (p .top) t) 0)) (span w′ (p .top) t)) t (sectionOf (cell (span w′ (p .top) t) 0)) (how .0)
+        (subst (λ (n : Progress). Few (n .table)) (how .1) (told .few)) ids (omega (arith, b .1, h .low, h .ended, h .short, h .order)))
 
     pub line-small : t < 2 ^ 32
     line-small = let b = bounds text w w′ from to p r t x e in omega (arith, b .1, h .low, h .ended, h .short, h .order)
@@ -116,7 +122,13 @@ module _ {text w w′ : List ℕ} {from to : ℕ} {p : Progress} {r : Got} {t : 
           is =
               ap (λ (m : List ℕ). admitted (readingOf q m)) there
               ∙ ap (λ (n : Progress). admitted (readingOf n (set w′ (rowsAt + (p .lines + 1)) t))) (how .1)
-              ∙ ap (λ (m : rules.Sections). admitted (record { stage = rules.stageAfter (sectionOf (cell (span w′ (p .top) t) 0)); ids = p .ids + rowWeight (sectionOf (cell (span w′ (p .top) t) 0)) (span w′ (p .top) t); table = m }))
+              ∙ ap (λ (m : rules.Sections). admitted
+              (record {
+                stage = rules.stageAfter (sectionOf (cell (span w′ (p .top) t) 0));
+                ids = p .ids + rowWeight (sectionOf (cell (span w′ (p .top) t) 0))
+                    (span w′ (p .top) t);
+                table = m;
+              }))
               (sym (grown p w′ t layout few-lines room (h .fine) (sectionOf (cell (span w′ (p .top) t) 0)) (how .0)))
               ∙ ap (λ (o : Verdict). said o (add (readingOf p w′) (sectionOf (cell (span w′ (p .top) t) 0)) (span w′ (p .top) t))) (sym g ∙ j .is)
               ∙ admitted-by p w′ t (h .fine) layout (sectionOf (cell (span w′ (p .top) t) 0))
@@ -150,8 +162,29 @@ pub record Walking (text w₀ w : List ℕ) (from : ℕ) (p : Progress) : Type 0
 
 start : (text w : List ℕ) → Begun w → Walking text w w 0 untouched
 start text w h = record {
-  fine = record { few = record { names = omega arith; entries = omega arith; pairs = omega arith; marks = omega arith; roots = omega arith }; few-ids = omega arith; low = omega arith; few-lines = omega arith; unbegun = λ e. refl; begun = λ e. absurd (e refl); no-names = λ e. refl; no-entries = λ e. refl; no-pairs = λ e. refl; no-marks = λ e. refl; no-roots = λ e. refl };
-  layout = record { ends = h .none-yet; order = λ i lt. omega arith; behind = λ i le. let e : i ≡ 0 = omega arith in let q = ap (beginAt w) e in omega (arith, h .none-yet); within = λ i le. let e : i ≡ 0 = omega arith in let q = ap (beginAt w) e in omega (arith, h .none-yet) };
+  fine = record {
+    few = record
+        { names = omega arith; entries = omega arith; pairs = omega arith; marks = omega arith; roots = omega arith };
+    few-ids = omega arith;
+    low = omega arith;
+    few-lines = omega arith;
+    unbegun = λ e. refl;
+    begun = λ e. absurd
+        (e refl);
+    no-names = λ e. refl;
+    no-entries = λ e. refl;
+    no-pairs = λ e. refl;
+    no-marks = λ e. refl;
+    no-roots = λ e. refl;
+  };
+  layout = record {
+    ends = h .none-yet;
+    order = λ i lt. omega arith;
+    behind = λ i le. let e : i
+        ≡ 0 = omega arith in let q = ap (beginAt w) e in omega (arith, h .none-yet);
+    within = λ i le. let e : i
+        ≡ 0 = omega arith in let q = ap (beginAt w) e in omega (arith, h .none-yet);
+  };
   low = omega arith;
   high = omega arith;
   room = h .room;
@@ -176,7 +209,13 @@ module _ {text w₀ w : List ℕ} {from : ℕ} {p : Progress} (inv : Walking tex
     is = simp (ne-eqb (p .stage) 0 e) at (ended h);
     laid =
         let b = inv .fine .begun e in
-        record { few = inv .fine .few; order = λ i lt. inv .layout .order i (omega arith); behind = λ i le. inv .layout .behind i (omega arith); within = λ i le. omega (arith, inv .layout .within i (omega arith), inv .fine .low) };
+        record {
+          few = inv .fine .few;
+          order = λ i lt. inv .layout .order i (omega arith);
+          behind = λ i le. inv .layout .behind i
+              (omega arith);
+          within = λ i le. omega (arith, inv .layout .within i (omega arith), inv .fine .low);
+        };
     apart = inv .apart;
   }
 
@@ -201,7 +240,9 @@ module _ {text w₀ w : List ℕ} {from : ℕ} {p : Progress} (inv : Walking tex
         walk-apart : Apart w₀ w′
         walk-apart = record { same-length = d .apart .same-length ∙ inv .apart .same-length; kept = λ i b. d .apart .kept i b ∙ inv .apart .kept i b }
 
-        turn : (o : Admission) → takenOf v w′ ≡ o → then (atLine (p .lines + 1) o) (λ (q : Reading). lines (suc (p .lines + 1)) q (pieces 10 (span text (e + 1) (length text)))) ≡ lines 1 nothing (pieces 10 text)
+        turn : (o : Admission) → takenOf v w′ ≡ o
+            → then (atLine (p .lines + 1) o) (λ (q : Reading). lines (suc (p .lines + 1)) q (pieces 10 (span text (e + 1) (length text))))
+            ≡ lines 1 nothing (pieces 10 text)
         turn o q =
             ap (λ (z : Admission). then (atLine (p .lines + 1) z) (λ (q : Reading). lines (suc (p .lines + 1)) q (pieces 10 (span text (e + 1) (length text))))) (sym q ∙ d .is)
             ∙ sym (ap (lines (p .lines + 1) (readingOf p w)) (k .here within) ∙ lines-next (p .lines + 1) (readingOf p w) (span text from e) (span text (e + 1) (length text)))

@@ -19,7 +19,8 @@ use Rattle.table.specs.declared.Table.{Table}
 use Rattle.table.specs.declared.judging.Progress.{Progress}
 use Rattle.table.specs.declared.judging.Verdict.{Verdict}
 use Rattle.table.specs.declared.judging.Verdict.the-variants.{Taken, Fault}
-use Rattle.table.specs.Rows.{Begin, At, Section, Before, Weight, KeysAscend, countRow, Counted, NamesOver, EntriesOver, RestOver, overBy, Over, InOrder, NameAscends, Ascends, RowWeight, Size, StageAfter, advanceBy, Advanced, judgeBy, Judged}
+use Rattle.table.specs.Rows.{Begin, At, Section, Before, Weight, KeysAscend, countRow, Counted, NamesOver, EntriesOver, RestOver, overBy, Over, InOrder}
+use Rattle.table.specs.Rows.{NameAscends, Ascends, RowWeight, Size, StageAfter, advanceBy, Advanced, judgeBy, Judged}
 
 module _ {kind : ℕ} where
   pub section-of : {b : List ℕ} {r : ℕ} → kindsIn b 16 ≡ kinds → kind < 16 → Byte b (17 * kind + 8) r → Section kind r
@@ -166,14 +167,17 @@ stage-first {s} e = record { is = simp (eq-eqb s 0 e) }
 pub stage-same : {s : ℕ} → (s ≡ 0 → ⊥) → StageAfter s s
 stage-same {s} e = record { is = simp (ne-eqb s 0 e) }
 
-pub advance-is : {p : Progress} {s ids to stage : ℕ} {t : Table} → Counted (p .table) s t → StageAfter s stage → Advanced p s ids to (record { stage = stage; lines = p .lines + 1; top = to; ids = p .ids + ids; table = t })
+pub advance-is : {p : Progress} {s ids to stage : ℕ} {t : Table} → Counted (p .table) s t → StageAfter s stage
+    → Advanced p s ids to (record { stage = stage; lines = p .lines + 1; top = to; ids = p .ids + ids; table = t })
 advance-is {p} {s} {ids} {to} c a = record { is = ap₂ {C = Progress} (λ (x : ℕ) (t : Table). record { stage = x; lines = p .lines + 1; top = to; ids = p .ids + ids; table = t }) (a .is) (c .is) }
 
 -- a row judged
-judged : (p : Progress) (w : List ℕ) (to kind sec : ℕ) → At w (p .top) to 0 kind → Section kind sec → {r : Verdict} → r ≡ judgeBy p w to sec → r ≡ judgeBy p w to (sectionOf (cell (span w (p .top) to) 0))
+judged : (p : Progress) (w : List ℕ) (to kind sec : ℕ) → At w (p .top) to 0 kind → Section kind sec → {r : Verdict} → r ≡ judgeBy p w to sec → r
+    ≡ judgeBy p w to (sectionOf (cell (span w (p .top) to) 0))
 judged p w to kind sec k z e = e ∙ ap (judgeBy p w to) (z .is ∙ ap sectionOf (k .is))
 
-over-is : (p q : Progress) (w : List ℕ) (to sec x size : ℕ) (b : Bool) → RowWeight w (p .top) to sec x → Advanced p sec x to q → Size (p .top) to size → Over (q .table) (q .ids) sec size b → b ≡ overBy (countRow (p .table) sec) (p .ids + rowWeight sec (span w (p .top) to)) sec ((to - p .top) - 1)
+over-is : (p q : Progress) (w : List ℕ) (to sec x size : ℕ) (b : Bool) → RowWeight w (p .top) to sec x → Advanced p sec x to q → Size (p .top) to size
+    → Over (q .table) (q .ids) sec size b → b ≡ overBy (countRow (p .table) sec) (p .ids + rowWeight sec (span w (p .top) to)) sec ((to - p .top) - 1)
 over-is p q w to sec x size b r v n y =
     y .is
     ∙ ap₂ {C = Bool} (λ (m : Progress) (l : ℕ). overBy (m .table) (m .ids) sec l) (v .is) (n .is)
@@ -186,7 +190,8 @@ module _ {p : Progress} {w : List ℕ} {to kind sec : ℕ} {a : Bool} (k : At w 
   pub judge-1 : a ≡ false → Judged p w to (Fault 1)
   judge-1 h = record { is = judged p w to kind sec k z (simp (sym (o .is) ∙ h)); admitted = tt }
 
-  module _ {x size : ℕ} {q : Progress} {b : Bool} (h : a ≡ true) (r : RowWeight w (p .top) to sec x) (v : Advanced p sec x to q) (n : Size (p .top) to size) (y : Over (q .table) (q .ids) sec size b) where
+  module _ {x size : ℕ} {q : Progress} {b : Bool} (h : a ≡ true) (r : RowWeight w (p .top) to sec x) (v : Advanced p sec x to q) (n : Size (p .top) to size)
+      (y : Over (q .table) (q .ids) sec size b) where
     pub judge-2 : b ≡ true → Judged p w to (Fault 2)
     judge-2 e = record { is = judged p w to kind sec k z (simp (sym (o .is) ∙ h, sym (over-is p q w to sec x size b r v n y) ∙ e)); admitted = tt }
 

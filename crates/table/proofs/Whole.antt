@@ -40,7 +40,9 @@ pub read-few : {text w w′ : List ℕ} {a : Answer} {t : Table} → Lines text 
 read-few {text} {w} {w′} {a} {t} h e = let l : Laid t w′ = subst (λ (r : Answer). LaidBy r w′) e (h .laid) in l .few
 
 -- the ranges, by the counts
-in-table : (t : Table) (w : List ℕ) → inTable (tableFrom t w) ≡ then (known (entryTest t) (2 + t .names) (run (rowAt w) (1 + t .names) (t .entries))) (λ _. passing (known (rootTest t) (2 + t .names + t .entries + t .pairs + t .marks) (bare (run (rowAt w) (rootRow t) (t .roots)))) t w)
+in-table : (t : Table) (w : List ℕ) → inTable (tableFrom t w)
+    ≡ then (known (entryTest t) (2 + t .names) (run (rowAt w) (1 + t .names) (t .entries)))
+    (λ _. passing (known (rootTest t) (2 + t .names + t .entries + t .pairs + t .marks) (bare (run (rowAt w) (rootRow t) (t .roots)))) t w)
 unfolding inTable tableFrom
 in-table t w =
     let names = bare-length w 1 (t .names) in
@@ -59,7 +61,8 @@ module _ {w : List ℕ} {t : Table} {b : Answer} (x : EntriesKnown w t b) where
   pub known-no : {k l : ℕ} → b ≡ Refused k l → Known w t (Refused k l)
   known-no {k} {l} q = record {
     is =
-        refused-by (known (entryTest t) (2 + t .names) (run (rowAt w) (1 + t .names) (t .entries))) (passing (known (rootTest t) (2 + t .names + t .entries + t .pairs + t .marks) (bare (run (rowAt w) (rootRow t) (t .roots)))) t w)
+        refused-by (known (entryTest t) (2 + t .names) (run (rowAt w) (1 + t .names) (t .entries)))
+        (passing (known (rootTest t) (2 + t .names + t .entries + t .pairs + t .marks) (bare (run (rowAt w) (rootRow t) (t .roots)))) t w)
         (ap (λ (r : Answer). outcome r w) (sym q) ∙ x .is)
         ∙ sym (in-table t w);
     kept = tt;
@@ -72,7 +75,8 @@ module _ {w : List ℕ} {t : Table} {b : Answer} (x : EntriesKnown w t b) where
   pub known-yes : {u : Table} {r : Answer} → b ≡ Accepted u → RootsKnown w t r → Known w t r
   known-yes {u} {r} q y = record {
     is =
-        accepted-by (known (entryTest t) (2 + t .names) (run (rowAt w) (1 + t .names) (t .entries))) (outcome r w) (passing (known (rootTest t) (2 + t .names + t .entries + t .pairs + t .marks) (bare (run (rowAt w) (rootRow t) (t .roots)))) t w)
+        accepted-by (known (entryTest t) (2 + t .names) (run (rowAt w) (1 + t .names) (t .entries))) (outcome r w)
+        (passing (known (rootTest t) (2 + t .names + t .entries + t .pairs + t .marks) (bare (run (rowAt w) (rootRow t) (t .roots)))) t w)
         (y .is)
         (ap (λ (r : Answer). outcome r w) (sym q) ∙ x .is)
         ∙ sym (in-table t w);

@@ -15,7 +15,8 @@ ghost use Prim.Native.Nat.{_<_, _≤_};
 ghost use lib.ListN.{length};
 ghost use Rattle.layout.specs.Layout.{tableLength};
 ghost use Rattle.rules.specs.Ceilings.{mostText};
-ghost use Rattle.table.specs.Rows.{Section, PlainWeight, Weight, KeysAscend, Few, Counted, NamesOver, EntriesOver, RestOver, Over, InOrder, NameAscends, Ascends, RowWeight, Size, StageAfter, Fine, Advanced, Judged, Unread, Begun, Started, Ready, Kinds, Lined, Lines};
+ghost use Rattle.table.specs.Rows.{Section, PlainWeight, Weight, KeysAscend, Few, Counted, NamesOver, EntriesOver, RestOver, Over, InOrder, NameAscends, Ascends};
+ghost use Rattle.table.specs.Rows.{RowWeight, Size, StageAfter, Fine, Advanced, Judged, Unread, Begun, Started, Ready, Kinds, Lined, Lines};
 
 // What was read so far: the section that a line may still be of (0 before the budget line), the rows, where the last ends.
 pub struct Progress {

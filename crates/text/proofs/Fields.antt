@@ -108,5 +108,15 @@ module _ {s : List ℕ} {from to kind top : ℕ} {w w′ : List ℕ} {r : Got} w
 pub field-none : {s : List ℕ} {from to kind top : ℕ} {w : List ℕ} → 4 ≤ kind → (kind ≡ 4 → ⊥) → (kind ≡ 5 → ⊥) → (kind ≡ 6 → ⊥) → (kind ≡ 7 → ⊥) → Field s from to kind top w w Bad
 unfolding fieldOf
 field-none {s} {from} {to} {kind} h a b c d = record {
-  wrote = wrote-none (simp (ne-eqb kind 0 (λ z. omega arith), ne-eqb kind 1 (λ z. omega arith), ne-eqb kind 2 (λ z. omega arith), ne-eqb kind 3 (λ z. omega arith), ne-eqb kind 4 a, ne-eqb kind 5 b, ne-eqb kind 6 c, ne-eqb kind 7 d));
+  wrote = wrote-none (simp (
+    ne-eqb kind 0 (λ z. omega arith),
+    ne-eqb kind 1 (λ z. omega arith),
+    ne-eqb kind 2 (λ z. omega arith),
+    ne-eqb kind 3
+        (λ z. omega arith),
+    ne-eqb kind 4 a,
+    ne-eqb kind 5 b,
+    ne-eqb kind 6 c,
+    ne-eqb kind 7 d,
+  ));
 }

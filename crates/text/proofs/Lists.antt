@@ -58,7 +58,8 @@ module _ {s : List ℕ} {from to e : ℕ} (x : Seek s from to 58 e) where
     pub keyed-many : {top : ℕ} {w : List ℕ} → (f ≡ to → ⊥) → Keyed s from to top w w Bad
     unfolding pieces
     keyed-many h = record {
-      wrote = wrote-none (ap keyed (x .here before ∙ ap (λ (l : List (List ℕ)). span s from e ∷ l) (y .here (lt-of-le-of-ne (y .high) h))) ∙ cut-some (λ (q : List (List ℕ)). keyed (span s from e ∷ span s (e + 1) f ∷ q) ≡ none) (λ p ps. refl) 58 [] (span s (f + 1) to));
+      wrote = wrote-none (ap keyed (x .here before ∙ ap (λ (l : List (List ℕ)). span s from e ∷ l) (y .here (lt-of-le-of-ne (y .high) h)))
+          ∙ cut-some (λ (q : List (List ℕ)). keyed (span s from e ∷ span s (e + 1) f ∷ q) ≡ none) (λ p ps. refl) 58 [] (span s (f + 1) to));
     }
 
     module _ {a : Num} (h : f ≡ to) (p : Number s from e a) where
@@ -148,7 +149,9 @@ module _ {s : List ℕ} {from to each top : ℕ} {w₀ w : List ℕ} {i t e : �
 
   module _ {w′ : List ℕ} {r : Got} (p : Element s i e each t w w′ r) where
     -- the element's outcome, with the pieces after it
-    then : (ps : List (List ℕ)) (m : Option (List ℕ)) → pieces 44 (span s i to) ≡ span s i e ∷ ps → gotWords t w′ r ≡ m → follow (span w top t) (m >>= (λ (x : List ℕ). elements (elementOf each) ps >>= (λ (xs : List ℕ). some (x ++ xs)))) ≡ elements (elementOf each) (pieces 44 (span s from to))
+    then : (ps : List (List ℕ)) (m : Option (List ℕ)) → pieces 44 (span s i to) ≡ span s i e ∷ ps → gotWords t w′ r ≡ m
+        → follow (span w top t) (m >>= (λ (x : List ℕ). elements (elementOf each) ps >>= (λ (xs : List ℕ). some (x ++ xs))))
+        ≡ elements (elementOf each) (pieces 44 (span s from to))
     then ps m h q =
         ap (λ (o : Option (List ℕ)). follow (span w top t) (o >>= (λ (x : List ℕ). elements (elementOf each) ps >>= (λ (xs : List ℕ). some (x ++ xs))))) (sym q ∙ p .wrote .is)
         ∙ ap (λ (l : List (List ℕ)). follow (span w top t) (elements (elementOf each) l)) (sym h)
@@ -235,7 +238,9 @@ module _ {s : List ℕ} {from to each top : ℕ} {w : List ℕ} {b : Bool} (room
         wrote = record {
           above = above-set top ((t - (top + 1)) / each) (above-over above-none (p .wrote .above) (omega arith)) (omega arith);
           is =
-              ap (λ (x : List ℕ). some x) (span-put w′ top ((t - (top + 1)) / each) t (omega (arith, list-bounds .0)) list-place ∙ ap (λ (n : ℕ). n / each ∷ span w′ (top + 1) t) (sym (span-length w′ (top + 1) t)))
+              ap (λ (x : List ℕ). some x)
+              (span-put w′ top ((t - (top + 1)) / each) t (omega (arith, list-bounds .0)) list-place
+              ∙ ap (λ (n : ℕ). n / each ∷ span w′ (top + 1) t) (sym (span-length w′ (top + 1) t)))
               ∙ sym (is-counted (some (span w′ (top + 1) t)) (ap (gotWords (top + 1) w′) q));
           ends = (omega (arith, list-bounds .0), omega (arith, list-bounds .1));
         };

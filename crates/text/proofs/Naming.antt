@@ -194,7 +194,8 @@ module _ {s : List ℕ} {from to top : ℕ} {w₀ w : List ℕ} {st i t : ℕ} (
   name-done h z = record {
     wrote = record {
       above = inv .above;
-      is = sym (ap (λ (l : List ℕ). some l) (append-nil (span w top t))) ∙ ap₂ {C = Option (List ℕ)} (λ (q : ℕ) (l : List ℕ). follow (span w top t) (chars q l)) (sym z) (sym (span-none s i to h)) ∙ inv .is;
+      is = sym (ap (λ (l : List ℕ). some l) (append-nil (span w top t)))
+          ∙ ap₂ {C = Option (List ℕ)} (λ (q : ℕ) (l : List ℕ). follow (span w top t) (chars q l)) (sym z) (sym (span-none s i to h)) ∙ inv .is;
       ends = (inv .begun, omega (arith, inv .short, inv .high, inv .low));
     };
   }

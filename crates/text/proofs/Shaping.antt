@@ -63,7 +63,9 @@ module _ {s : List ℕ} {from to : ℕ} {b : List ℕ} {kind n top : ℕ} {w₀ 
   at-end h = ap (λ (q : List ℕ). follow (span w (top + 1) t) (byShape q (left s i to))) (sym (run-none (cell b) (17 * kind + 10) n k h)) ∙ inv .is
 
   pub shape-few : k < n → to < i → Shaped s from to kind (shapeAt b kind) top w₀ w Bad
-  shape-few h q = shape-bad (inv .above) (sym (ap₂ {C = Option (List ℕ)} (λ (x : List ℕ) (y : List (List ℕ)). follow (span w (top + 1) t) (byShape x y)) (sym (run-next (cell b) (17 * kind + 10) n k h)) (sym (left-none s i to q)) ∙ inv .is))
+  shape-few h q = shape-bad (inv .above)
+      (sym (ap₂ {C = Option (List ℕ)} (λ (x : List ℕ) (y : List (List ℕ)). follow (span w (top + 1) t) (byShape x y))
+      (sym (run-next (cell b) (17 * kind + 10) n k h)) (sym (left-none s i to q)) ∙ inv .is))
 
   pub shape-done : ShapeRoom s from to w₀ top → n ≤ k → to < i → Shaped s from to kind (shapeAt b kind) top w₀ (set w top kind) (To t)
   shape-done room h q = record {
@@ -82,7 +84,9 @@ module _ {s : List ℕ} {from to : ℕ} {b : List ℕ} {kind n top : ℕ} {w₀ 
   unfolding pieces
   shape-many h le =
       let now : left s i to ≡ pieces 9 (span s i to) = simp (le-ltb to i le) in
-      shape-bad (inv .above) (sym (at-end h) ∙ ap (λ (z : List (List ℕ)). follow (span w (top + 1) t) (byShape [] z)) now ∙ ap (follow (span w (top + 1) t)) (cut-some (λ (q : List (List ℕ)). byShape [] q ≡ none) (λ p ps. refl) 9 [] (span s i to)))
+      shape-bad (inv .above)
+      (sym (at-end h) ∙ ap (λ (z : List (List ℕ)). follow (span w (top + 1) t) (byShape [] z)) now
+      ∙ ap (follow (span w (top + 1) t)) (cut-some (λ (q : List (List ℕ)). byShape [] q ≡ none) (λ p ps. refl) 9 [] (span s i to)))
 
   pub shape-place : ShapeRoom s from to w₀ top → top < length w
   shape-place room = let l = inv .above .same-length in omega (arith, room .room)

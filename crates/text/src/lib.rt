@@ -5,7 +5,8 @@ ghost use mathlib.Core.Path.{_≡_};
 ghost use mathlib.Core.List.{[], _∷_};
 ghost use Prim.Native.Nat.{_≤_};
 ghost use lib.ListN.{length};
-ghost use Rattle.text.specs.Reads.{Digit, Digits, Number, Word, Seek, Hex, Escaped, Next, Room, FieldRoom, ShapeRoom, Keyed, Element, Elements, Listed, Bounded, Dyned, Signed, Named, Field, Shaped};
+ghost use Rattle.text.specs.Reads.{Digit, Digits, Number, Word, Seek, Hex, Escaped, Next, Room, FieldRoom, ShapeRoom, Keyed, Element, Elements, Listed, Bounded};
+ghost use Rattle.text.specs.Reads.{Dyned, Signed, Named, Field, Shaped};
 ghost use Rattle.text.specs.Keywords.{Slot, shapeAt};
 
 pub enum Num {

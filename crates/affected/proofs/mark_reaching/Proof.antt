@@ -5,14 +5,7 @@ use Rattle.affected.proofs.mark_reaching.Statement.{statement}
 use Rattle.affected.proofs.mark_reaching.Tie as tie
 
 returns : tie.Need-returns
-returns c =
-    let early = c .before .before .before .before .before .before .before .before in
-    reaching-is
-    (early .before .before .before .before .before .before .before .before .before .before .clear .ensures)
-    (search needs)
-    (early .before .before .before .before .before .before .link-all .ensures)
-    (search needs) (early .before .before .clear2 .ensures) (search needs)
-    (c .before .before .before .before .before .before .mark-differing .ensures) (search needs) (c .before .before .spread .ensures)
+returns c = search reaching-is
 
 pub mark-reaching-spec : {M : Type 1} → statement M
 mark-reaching-spec =

@@ -20,22 +20,10 @@ read-requires c κs =
     omega (arith, long-enough (is-short .ensures) (if1 .left) .0, clear .kept .0)
 
 returns-2 : tie.Need-returns-2
-returns-2 c =
-    let is-short = c .before .before .before .before .before .before .before .before .before .before .before .before .before .before .is-short in
-    let if1 = c .before .before .before .before .before .before .before .before .before .before .before .before .before .if1 in
-    let clear = c .before .before .before .before .before .before .before .before .before .before .before .clear in
-    let read = c .before .before .before .before .before .before .before .read in
-    let t = c .before .before .before .t in
-    let is-no-entry = c .before .is-no-entry in
-    no-entry (is-short .ensures) (if1 .left) (clear .ensures) (clear .kept .0) (read .ensures) (t .given .1) (is-no-entry .ensures) (c .if2 .taken)
+returns-2 c = search no-entry
 
 returns-3 : tie.Need-returns-3
-returns-3 c =
-    let is-short = c .before .before .before .before .before .before .before .before .before .before .before .before .is-short in
-    let if1 = c .before .before .before .before .before .before .before .before .before .before .before .if1 in
-    let read = c .before .before .before .before .before .read in
-    let k = c .before .k in
-    refused-answer (is-short .ensures) (if1 .left) (read .ensures) (k .given .1)
+returns-3 c = search refused-answer
 
 same-length-5 : tie.Need-same-length-5
 same-length-5 c =

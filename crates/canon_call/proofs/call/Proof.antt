@@ -5,12 +5,7 @@ use Rattle.canon_call.proofs.call.Statement.{statement}
 use Rattle.canon_call.proofs.call.Tie as tie
 
 returns : tie.Need-returns
-returns c =
-    let mid = c .before .before .before .before .before .before .before .before .before .before .before .before .before .before in
-    let answer = mid .before .before .before .before .before .before .before .before .before .answer in
-    let wipe-all = c .before .before .before .before .before .before .before .before .wipe-all in
-    calls (answer .ensures) (answer .kept .1 .1 .1 .0) (answer .kept .1 .1 .1 .1 .0) (answer .kept .1 .1 .1 .1 .1 .0)
-    (answer .kept .1 .1 .1 .1 .1 .1 .0) (wipe-all .ensures)
+returns c = search calls
 
 pub call-spec : {M : Type 1} → statement M
 call-spec =

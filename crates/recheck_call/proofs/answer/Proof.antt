@@ -24,13 +24,7 @@ read-requires-2 c κs =
     omega (arith, long-enough (is-short .ensures) (if2 .left) .0, clear .kept .0)
 
 returns-3 : tie.Need-returns-3
-returns-3 c =
-    let if1 = c .before .before .before .before .before .before .before .before .before .if1 in
-    let is-short = c .before .before .before .before .before .before .before .before .is-short in
-    let if2 = c .before .before .before .before .before .before .before .if2 in
-    let read = c .before .before .before .before .before .read in
-    let k = c .before .k in
-    refused-answer (if1 .left) (is-short .ensures) (if2 .left) (read .ensures) (k .given .1)
+returns-3 c = search refused-answer
 
 returns-4 : tie.Need-returns-4
 returns-4 c =

@@ -11,16 +11,7 @@ returns c =
     not-comparable (comparable .ensures) (c .if1 .taken)
 
 returns-2 : tie.Need-returns-2
-returns-2 c =
-    let mid = c .before .before .before .before .before .before .before .before .before .before .before .before .before .before in
-    let comparable = mid .before .comparable in
-    let if1 = mid .if1 in
-    let number = c .before .before .before .before .before .before .before .before .before .before .number in
-    let first-root = c .before .before .before .before .before .before .before .before .before .first-root in
-    let number2 = c .before .before .before .before .before .before .before .before .number2 in
-    let read-old = c .before .before .before .before .before .before .before .read-old in
-    let l = c .before .l in
-    refused-old (comparable .ensures) (if1 .left) (number .ensures) (first-root .ensures) (number2 .ensures) (read-old .ensures) (l .given .1)
+returns-2 c = search refused-old
 
 same-length-8 : tie.Need-same-length-8
 same-length-8 c =

@@ -5,12 +5,7 @@ use Rattle.signatures.proofs.pekonusit_canon.Statement.{statement}
 use Rattle.signatures.proofs.pekonusit_canon.Tie as tie
 
 returns : tie.Need-returns
-returns c =
-    let mid = c .before .before .before .before .before .before .before .before .before .before .before .before .before .before in
-    let code = c .code in
-    let canon = c .before .before .before .before .before .before .before .before .before .before .before .canon in
-    let args = mid .before .before .before .before .before .before .before .before .before .args in
-    canon-exported (args .text .now) (args .out .now) (canon .ensures) (code .ensures)
+returns c = search canon-exported
 
 pub pekonusit-canon-spec : {M : Type 1} → statement M
 pekonusit-canon-spec =

@@ -5,12 +5,7 @@ use Rattle.signatures.proofs.pekonusit_canon_root.Statement.{statement}
 use Rattle.signatures.proofs.pekonusit_canon_root.Tie as tie
 
 returns : tie.Need-returns
-returns c =
-    let mid = c .before .before .before .before .before .before .before .before .before .before .before .before .before .before in
-    let code = c .code in
-    let canon-root = c .before .before .before .before .before .before .before .before .before .before .before .canon-root in
-    let args = mid .before .before .before .before .before .before .before .before .before .args in
-    canon-root-exported (args .text .now) (args .out .now) (args .id) (args .sign) (canon-root .ensures) (code .ensures)
+returns c = search canon-root-exported
 
 pub pekonusit-canon-root-spec : {M : Type 1} → statement M
 pekonusit-canon-root-spec =

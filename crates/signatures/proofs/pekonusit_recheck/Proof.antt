@@ -5,13 +5,7 @@ use Rattle.signatures.proofs.pekonusit_recheck.Statement.{statement}
 use Rattle.signatures.proofs.pekonusit_recheck.Tie as tie
 
 returns : tie.Need-returns
-returns c =
-    let mid1 = c .before .before .before .before .before .before .before .before .before .before .before .before .before .before in
-    let mid2 = mid1 .before .before .before .before .before .before .before .before .before .before .before .before .before .before in
-    let code = c .code in
-    let recheck = c .before .before .before .before .before .before .before .before .before .before .before .before .before .recheck in
-    let args = mid2 .before .args in
-    recheck-exported (args .old-text .now) (args .new-text .now) (args .listing .now) (args .out .now) (recheck .ensures) (code .ensures)
+returns c = search recheck-exported
 
 pub pekonusit-recheck-spec : {M : Type 1} → statement M
 pekonusit-recheck-spec =

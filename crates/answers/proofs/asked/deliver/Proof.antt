@@ -5,11 +5,7 @@ use Rattle.answers.proofs.asked.deliver.Statement.{statement}
 use Rattle.answers.proofs.asked.deliver.Tie as tie
 
 returns : tie.Need-returns
-returns c =
-    let mid = c .before .before .before .before .before .before .before .before .before .before .before .before .before .before in
-    let clear = mid .before .before .clear in
-    let write-asked = c .before .before .before .before .before .before .before .before .before .write-asked in
-    deliver-none (clear .kept .0) (write-asked .ensures) (c .if1 .taken)
+returns c = search deliver-none
 
 returns-2 : tie.Need-returns-2
 returns-2 c =
@@ -23,14 +19,7 @@ returns-2 c =
     (write-asked2 .ensures)
 
 returns-3 : tie.Need-returns-3
-returns-3 c =
-    let mid = c .before .before .before .before .before .before .before .before .before .before .before .before .before .before in
-    let clear = mid .before .before .before .before .before .before .before .before .clear in
-    let write-asked = mid .before .write-asked in
-    let if1 = c .before .before .before .before .before .before .if1 in
-    let if2 = c .before .before .before .before .before .if2 in
-    let copy = c .before .before .copy in
-    deliver-copy (clear .kept .0) (write-asked .ensures) (write-asked .kept .1 .0) (if1 .left) (if2 .left) (copy .ensures)
+returns-3 c = search deliver-copy
 
 pub deliver-spec : {M : Type 1} → statement M
 deliver-spec =

@@ -7,7 +7,7 @@ returns : tie.Need-returns
 returns c = tab-none (c .if1 .taken)
 
 returns-2 : tie.Need-returns-2
-returns-2 c = tab-one (c .before .before .before .before .if1 .left) (c .before .before .byte .ensures)
+returns-2 c = search tab-one
 
 pub tab-before-spec : {M : Type 1} → statement M
 tab-before-spec = tie.close (tie.spec returns (λ c _. search needs) (λ c. search needs) returns-2)

@@ -11,7 +11,7 @@ returns-2 : tie.Need-returns-2
 returns-2 c = old-past (c .if2 .taken)
 
 returns-3 : tie.Need-returns-3
-returns-3 c = old-some (c .before .before .before .before .before .before .if1 .left) (c .before .before .word .ensures)
+returns-3 c = search old-some
 
 pub write-old-spec : {M : Type 1} → statement M
 write-old-spec =

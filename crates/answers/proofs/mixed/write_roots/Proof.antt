@@ -31,10 +31,7 @@ loop-again c =
     )
 
 returns : tie.Need-returns Inv-loop μ-loop
-returns c =
-    let answers = c .before .before .before .before .answers in
-    let loop = c .before .loop in
-    listing-done (answers .ensures) refl (loop .inv .4) (omega arith)
+returns c = search listing-done
 
 pub write-roots-spec : {M : Type 1} → statement M
 write-roots-spec =

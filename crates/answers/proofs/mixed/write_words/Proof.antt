@@ -15,13 +15,10 @@ loop-holds : tie.Need-loop-holds Inv-loop μ-loop
 loop-holds c = worded-start
 
 loop-again : tie.Need-loop-again Inv-loop μ-loop
-loop-again c =
-    let write-word = c .before .before .write-word in
-    let loop = c .before .before .before .before .before .loop in
-    worded-next (loop .inv) (search needs) (write-word .kept .0) (write-word .ensures)
+loop-again c = search worded-next
 
 returns : tie.Need-returns Inv-loop μ-loop
-returns c = worded-done (c .before .before .before .before .before .loop .inv) (search needs) (c .before .before .byte .ensures)
+returns c = search worded-done
 
 pub write-words-spec : {M : Type 1} → statement M
 write-words-spec =

@@ -20,16 +20,7 @@ returns c =
     (omega (arith, fits .id), (omega (arith, fits .sign), (omega (arith, known-told .given), (omega (arith, known-told .given), tt)))) (root-lines .ensures)
 
 returns-2 : tie.Need-returns-2
-returns-2 c =
-    let mid = c .before .before .before .before .before .before .before .before .before .before .before .before .before .before in
-    let canonicalize = c .before .before .before .before .before .before .before .before .before .before .before .before .before .canonicalize in
-    let polarity = mid .polarity in
-    let k = c .before .before .before .before .before .k in
-    let fits = mid .before .before .before .before .before .before .before .before .before .fits in
-    let known-told2 = c .before .before .before .before .known-told2 in
-    let refused-root = c .before .before .refused-root in
-    root-refused (canonicalize .ensures) (polarity .ensures) (k .given .1) (canonicalize .kept .0)
-    (omega (arith, fits .id), (omega (arith, fits .sign), (omega (arith, known-told2 .given), tt))) (refused-root .ensures)
+returns-2 c = search root-refused
 
 pub write-root-spec : {M : Type 1} → statement M
 write-root-spec =

@@ -5,7 +5,7 @@ use Rattle.composites.proofs.bounds.settle_intersection.Statement.{stat
 use Rattle.composites.proofs.bounds.settle_intersection.Tie as tie
 
 returns : tie.Need-returns
-returns c = intersection-on (c .before .before .before .before .before .before .before .before .before .before .before .before .before .before .before .before .before .flattened .ensures) (search (c .before .before .before .before .before .before .before .before .before .before .before .before .before .before .known-told .given, c .before .before .before .before .before .before .before .before .before .before .before .before .before .before .before .flow .given)) (c .before .before .before .before .before .before .before .before .before .before .before .before .real-members .ensures) (c .before .before .before .before .before .before .before .before .before .merge-attrset-intersection .ensures) (c .before .before .before .first-of .ensures) (c .before .before .settle-merged .ensures)
+returns c = search intersection-on
 
 returns-2 : tie.Need-returns-2
 returns-2 c = search intersection-off

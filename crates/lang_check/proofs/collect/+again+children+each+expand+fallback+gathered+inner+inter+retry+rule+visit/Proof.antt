@@ -198,7 +198,20 @@ children-calls t = (hold-children-reads.Asked, hold-children-reads.Learnt, first
 
 -- what `each` is told of the functions that it calls
 abbrev each-calls : ℕ → each-lts.Claims
-each-calls t = (place-reads.Asked, place-reads.Learnt, get-reads.Asked, get-reads.Learnt, add-reads.Asked, add-reads.Learnt, side-reads.Asked, side-reads.Learnt, visit-below t, visit.Post, put-reads.Asked, put-reads.Learnt)
+each-calls t = (
+  place-reads.Asked,
+  place-reads.Learnt,
+  get-reads.Asked,
+  get-reads.Learnt,
+  add-reads.Asked,
+  add-reads.Learnt,
+  side-reads.Asked,
+  side-reads.Learnt,
+  visit-below t,
+  visit.Post,
+  put-reads.Asked,
+  put-reads.Learnt,
+)
 
 -- what `expand` is told of the functions that it calls
 abbrev expand-calls : ℕ → expand-lts.Claims
@@ -206,7 +219,20 @@ expand-calls t = (gathered-below t, gathered.Post, fallback-below t, fallback.Po
 
 -- what `fallback` is told of the functions that it calls
 abbrev fallback-calls : ℕ → fallback-lts.Claims
-fallback-calls t = (variable-reads.Asked, variable-reads.Learnt, begin-list-reads.Asked, begin-list-reads.Learnt, is-cut-reads.Asked, is-cut-reads.Learnt, begin-reads.Asked, begin-reads.Learnt, flip-reads.Asked, flip-reads.Learnt, expand-below t, expand.Post)
+fallback-calls t = (
+  variable-reads.Asked,
+  variable-reads.Learnt,
+  begin-list-reads.Asked,
+  begin-list-reads.Learnt,
+  is-cut-reads.Asked,
+  is-cut-reads.Learnt,
+  begin-reads.Asked,
+  begin-reads.Learnt,
+  flip-reads.Asked,
+  flip-reads.Learnt,
+  expand-below t,
+  expand.Post,
+)
 
 -- what `gathered` is told of the functions that it calls
 abbrev gathered-calls : ℕ → gathered-lts.Claims
@@ -214,7 +240,24 @@ gathered-calls t = (deduplicated-reads.Asked, deduplicated-reads.Learnt, each-be
 
 -- what `inner` is told of the functions that it calls
 abbrev inner-calls : ℕ → inner-lts.Claims
-inner-calls t = (named-bound-reads.Asked, named-bound-reads.Learnt, visit-below t, visit.Post, note-reads.Asked, note-reads.Learnt, own-bounds-reads.Asked, own-bounds-reads.Learnt, variable-reads.Asked, variable-reads.Learnt, none-begun-reads.Asked, none-begun-reads.Learnt, expand-below t, expand.Post, expanded-reads.Asked, expanded-reads.Learnt)
+inner-calls t = (
+  named-bound-reads.Asked,
+  named-bound-reads.Learnt,
+  visit-below t,
+  visit.Post,
+  note-reads.Asked,
+  note-reads.Learnt,
+  own-bounds-reads.Asked,
+  own-bounds-reads.Learnt,
+  variable-reads.Asked,
+  variable-reads.Learnt,
+  none-begun-reads.Asked,
+  none-begun-reads.Learnt,
+  expand-below t,
+  expand.Post,
+  expanded-reads.Asked,
+  expanded-reads.Learnt,
+)
 
 -- what `inter` is told of the functions that it calls
 abbrev inter-calls : ℕ → inter-lts.Claims
@@ -222,7 +265,18 @@ inter-calls t = (hold-two-reads.Asked, hold-two-reads.Learnt, each-below t, each
 
 -- what `retry` is told of the functions that it calls
 abbrev retry-calls : ℕ → retry-lts.Claims
-retry-calls t = (hold-two-reads.Asked, hold-two-reads.Learnt, turned-reads.Asked, turned-reads.Learnt, each-below t, each.Post, inter-tried-reads.Asked, inter-tried-reads.Learnt, retried-reads.Asked, retried-reads.Learnt)
+retry-calls t = (
+  hold-two-reads.Asked,
+  hold-two-reads.Learnt,
+  turned-reads.Asked,
+  turned-reads.Learnt,
+  each-below t,
+  each.Post,
+  inter-tried-reads.Asked,
+  inter-tried-reads.Learnt,
+  retried-reads.Asked,
+  retried-reads.Learnt,
+)
 
 -- what `rule` is told of the functions that it calls
 abbrev rule-calls : ℕ → rule-lts.Claims
@@ -230,7 +284,26 @@ rule-calls t = (entry-at-reads.Asked, entry-at-reads.Learnt, inner-below t, inne
 
 -- what `visit` is told of the functions that it calls
 abbrev visit-calls : ℕ → visit-lts.Claims
-visit-calls t = (variable-reads.Asked, variable-reads.Learnt, count-one-reads.Asked, count-one-reads.Learnt, exceeds-reads.Asked, exceeds-reads.Learnt, bail-reads.Asked, bail-reads.Learnt, slot-reads.Asked, slot-reads.Learnt, at-reads.Asked, at-reads.Learnt, set-reads.Asked, set-reads.Learnt, rule-below t, rule.Post, cached-reads.Asked, cached-reads.Learnt)
+visit-calls t = (
+  variable-reads.Asked,
+  variable-reads.Learnt,
+  count-one-reads.Asked,
+  count-one-reads.Learnt,
+  exceeds-reads.Asked,
+  exceeds-reads.Learnt,
+  bail-reads.Asked,
+  bail-reads.Learnt,
+  slot-reads.Asked,
+  slot-reads.Learnt,
+  at-reads.Asked,
+  at-reads.Learnt,
+  set-reads.Asked,
+  set-reads.Learnt,
+  rule-below t,
+  rule.Post,
+  cached-reads.Asked,
+  cached-reads.Learnt,
+)
 
 again-returns : (t : ℕ) → again-lts.Need-returns (again-calls t) (again-at t) again.Post
 again-returns t c =
@@ -269,7 +342,10 @@ each-loop-holds : (t : ℕ) → each-lts.Need-loop-holds (each-calls t) (each-at
 each-loop-holds t c = (search needs, eaching-start)
 
 each-add-i : (t : ℕ) → each-lts.Need-add-i (each-calls t) (each-at t) each.Post each-Inv-loop each-μ-loop
-each-add-i t c = omega (arith, c .before .before .before .before .before .before .before .before .before .before .before .before .before .before .before .before .before .before .before .before .before .loop .inv .0, c .before .before .before .before .before .before .before .before .before .before .before .before .before .before .before .before .before .before .before .before .loop-test .taken)
+each-add-i t c =
+    let at-loop-test = c .before .before .before .before .before .before .before .before .before .before .before .before .before .before .before .before .before .before .before .before in
+    let at-loop = at-loop-test .before in
+    omega (arith, at-loop .loop .inv .0, at-loop-test .loop-test .taken)
 
 each-loop-again : (t : ℕ) → each-lts.Need-loop-again (each-calls t) (each-at t) each.Post each-Inv-loop each-μ-loop
 each-loop-again t c =
@@ -282,8 +358,12 @@ each-loop-again t c =
     let get = add .before .before .before in
     let place = get .before in
     let loop-test = place .before .before in
-    let loop = loop-test .before in
-    (loop .loop .inv .0, eaching-more (loop .loop .inv .1) (loop-test .loop-test .taken) (place .place .ensures) (get .get .ensures) (add .add .ensures) (side .side .ensures) (visit .visit .ensures) (x .x .given .1) (visit .visit .kept .1 .1 .0) (visit .visit .kept .1 .1 .1 .0) (place2 .place2 .ensures) (put .put .ensures))
+    let loop = loop-test .before in (
+      loop .loop .inv .0,
+      eaching-more (loop .loop .inv .1) (loop-test .loop-test .taken) (place .place .ensures) (get .get .ensures) (add .add .ensures)
+          (side .side .ensures) (visit .visit .ensures) (x .x .given .1) (visit .visit .kept .1 .1 .0) (visit .visit .kept .1 .1 .1 .0) (place2 .place2 .ensures)
+          (put .put .ensures),
+    )
 
 each-returns : (t : ℕ) → each-lts.Need-returns (each-calls t) (each-at t) each.Post each-Inv-loop each-μ-loop
 each-returns t c =
@@ -356,10 +436,24 @@ inner-returns-2 : (t : ℕ) → inner-lts.Need-returns-2 (inner-calls t) (inner-
 inner-returns-2 t c = search inner-variable
 
 inner-returns-3 : (t : ℕ) → inner-lts.Need-returns-3 (inner-calls t) (inner-at t) inner.Post
-inner-returns-3 t c = inner-bounds (c .before .before .before .before .before .before .before .before .before .before .before .before .before .before .before .before .before .before .before .before .before .before .before .before .before .named-bound .ensures) (search (c .before .before .before .before .before .before .before .before .before .before .before .before .before .before .before .before .before .before .before .before .before .before .before .enum-told .given)) (c .before .before .before .before .before .before .before .before .before .before .before .before .before .before .before .before .before .before .before .before .before .note .ensures) (c .before .before .before .before .before .before .before .before .before .before .before .before .before .before .before .before .before .own-bounds .ensures) (c .before .before .before .before .before .before .before .before .before .before .before .before .before .n .given .1) (c .before .before .before .before .before .before .before .before .before .before .before .before .before .before .before .before .before .own-bounds .kept .1 .1 .0) (c .before .before .before .before .before .before .before .before .before .none-begun .ensures) (c .before .before .before .before .before .before .before .before .expand .ensures) (c .before .before .expanded .ensures)
+inner-returns-3 t c =
+    let at-expanded = c .before .before in
+    let at-expand = at-expanded .before .before .before .before .before .before in
+    let at-none-begun = at-expand .before in
+    let at-n = at-none-begun .before .before .before .before in
+    let at-own-bounds = at-n .before .before .before .before in
+    let at-note = at-own-bounds .before .before .before .before in
+    let at-enum-told = at-note .before .before in
+    let at-named-bound = at-enum-told .before .before in
+    inner-bounds (at-named-bound .named-bound .ensures) (search (at-enum-told .enum-told .given)) (at-note .note .ensures) (at-own-bounds .own-bounds
+    .ensures) (at-n .n .given .1) (at-own-bounds .own-bounds .kept .1 .1 .0) (at-none-begun .none-begun .ensures) (at-expand .expand .ensures)
+    (at-expanded .expanded .ensures)
 
 inter-again-requires : (t : ℕ) → inter-lts.Need-again-requires (inter-calls t) (inter-at t) inter.Post
-inter-again-requires t c κs = (omega (arith, c .before .before .before .before .before .before .before .before .before .before .before .before .before .before .before .before .before .before .before .before .before .before .before .pre .0), tt)
+inter-again-requires t c κs =
+    let mid = c .before .before .before .before .before .before .before .before .before .before .before .before .before .before in
+    let at-pre = mid .before .before .before .before .before .before .before .before .before in
+    (omega (arith, at-pre .pre .0), tt)
 
 inter-returns : (t : ℕ) → inter-lts.Need-returns (inter-calls t) (inter-at t) inter.Post
 inter-returns t c =

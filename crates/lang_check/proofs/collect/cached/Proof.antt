@@ -4,7 +4,7 @@ use Rattle.lang_check.proofs.collect.cached.Statement.{statement}
 use Rattle.lang_check.proofs.collect.cached.Tie as tie
 
 returns : tie.Need-returns
-returns c = caches-node (c .before .before .before .before .before .before .g .given .1) (c .before .before .before .add .ensures) (c .before .before .set .ensures)
+returns c = search caches-node
 
 returns-2 : tie.Need-returns-2
 returns-2 c = caches-refused (c .before .g2 .given .1)

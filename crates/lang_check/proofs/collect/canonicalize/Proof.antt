@@ -6,10 +6,7 @@ use Rattle.lang_check.proofs.collect.canonicalize.Statement.{statement}
 use Rattle.lang_check.proofs.collect.canonicalize.Tie as tie
 
 returns : tie.Need-returns
-returns c =
-    let one-pass = c .before .before .before .before .before .before .before .one-pass in
-    let first-shown = c .before .before .first-shown in
-    canonicalizes-refused (one-pass .ensures) (first-shown .ensures) (c .enum-told .given .1)
+returns c = search canonicalizes-refused
 
 returns-2 : tie.Need-returns-2
 returns-2 c =

@@ -14,16 +14,7 @@ same-length-2 c =
     visit .visit .kept .1 .1 .1 .0 ∙ clear3 .clear3 .kept .0 ∙ clear2 .clear2 .kept .0 ∙ clear .clear .kept .0
 
 returns : tie.Need-returns
-returns c =
-    let visit = c .before .before .before .before in
-    let none-counted = visit .before in
-    let at-set = none-counted .before .before .before .before .before in
-    let clear3 = at-set .before .before .before .before in
-    let clear2 = clear3 .before .before .before .before in
-    let clear = clear2 .before .before .before .before in
-    let add = clear .before in
-    one-pass (add .add .ensures) (clear .clear .ensures) (clear2 .clear2 .ensures) (clear3 .clear3 .ensures) (at-set .set .ensures)
-    (none-counted .none-counted .ensures) (visit .visit .ensures) (clear .clear .kept .0) (clear2 .clear2 .kept .0) (clear3 .clear3 .kept .0)
+returns c = search one-pass
 
 pub one-pass-spec : {M : Type 1} → statement M
 one-pass-spec =

@@ -1,6 +1,7 @@
 -- They end since an item counts less than its node, and a child, whose number is smaller, less still. The items from i on decide as all do.
 use Prim.Native.Nat.{_*_, _+_, _-_}
-use Rattle.lang_ty.proofs.Compare.{Ordered, ordered-start, ordered-more, ordered-less, ordered-greater, ordered-done, kinds-decide, at-same, at-never, at-end, at-num, at-child-end, at-child-num, at-deeper}
+use Rattle.lang_ty.proofs.Compare.{Ordered, ordered-start, ordered-more, ordered-less, ordered-greater, ordered-done, kinds-decide, at-same, at-never, at-end}
+use Rattle.lang_ty.proofs.Compare.{at-num, at-child-end, at-child-num, at-deeper}
 use borrow.Author.Needs.{needs}
 use Prim.Native.Nat.{ℕ, _<_}
 use borrow.Fn.Kinds.{In}
@@ -52,7 +53,18 @@ compare-μ-loop arena a b j k n m l i₀ i = l - i
 
 -- what `compare` is told of the functions that it calls
 abbrev compare-calls : ℕ → compare-lts.Claims
-compare-calls t = (kind-reads.Asked, kind-reads.Learnt, compare-numbers-reads.Asked, compare-numbers-reads.Learnt, items-reads.Asked, items-reads.Learnt, least-reads.Asked, least-reads.Learnt, compare-item-below t, compare-item.Post)
+compare-calls t = (
+  kind-reads.Asked,
+  kind-reads.Learnt,
+  compare-numbers-reads.Asked,
+  compare-numbers-reads.Learnt,
+  items-reads.Asked,
+  items-reads.Learnt,
+  least-reads.Asked,
+  least-reads.Learnt,
+  compare-item-below t,
+  compare-item.Post,
+)
 
 -- what `compare-item` is told of the functions that it calls
 abbrev compare-item-calls : ℕ → compare-item-lts.Claims

@@ -35,7 +35,24 @@ visit-μ-loop arena work₀ x k n next₀ i₀ work next i = n - i
 
 -- what `visit` is told of the functions that it calls
 abbrev visit-calls : ℕ → visit-lts.Claims
-visit-calls t = (at-reads.Asked, at-reads.Learnt, children-reads.Asked, children-reads.Learnt, child-reads.Asked, child-reads.Learnt, visit-below t, visit.Post, place-reads.Asked, place-reads.Learnt, put-reads.Asked, put-reads.Learnt, add-reads.Asked, add-reads.Learnt, set-reads.Asked, set-reads.Learnt)
+visit-calls t = (
+  at-reads.Asked,
+  at-reads.Learnt,
+  children-reads.Asked,
+  children-reads.Learnt,
+  child-reads.Asked,
+  child-reads.Learnt,
+  visit-below t,
+  visit.Post,
+  place-reads.Asked,
+  place-reads.Learnt,
+  put-reads.Asked,
+  put-reads.Learnt,
+  add-reads.Asked,
+  add-reads.Learnt,
+  set-reads.Asked,
+  set-reads.Learnt,
+)
 
 visit-returns : (t : ℕ) → visit-lts.Need-returns (visit-calls t) (visit-at t) visit.Post visit-Inv-loop visit-μ-loop
 visit-returns t c = search visits-seen

@@ -14,7 +14,16 @@ abbrev μ-loop : tie.MeasureT-loop
 μ-loop arena out₀ k x n got₀ i₀ out got i = n - i
 
 loop-again : tie.Need-loop-again Inv-loop μ-loop
-loop-again c = (adding-more (c .before .before .before .before .before .before .before .count .ensures) (c .before .before .before .before .before .before .loop .inv .0) (c .before .before .before .before .before .loop-test .taken) (c .before .before .before .member .ensures) (c .before .before .add-new .ensures), search needs)
+loop-again c =
+    let at-add-new = c .before .before in
+    let at-member = at-add-new .before in
+    let at-loop-test = at-member .before .before in
+    let at-loop = at-loop-test .before in
+    let at-count = at-loop .before in (
+      adding-more (at-count .count .ensures) (at-loop .loop .inv .0) (at-loop-test .loop-test .taken) (at-member .member .ensures) (at-add-new .add-new
+          .ensures),
+      search needs,
+    )
 
 pub add-members-spec : {M : Type 1} → statement M
 add-members-spec =

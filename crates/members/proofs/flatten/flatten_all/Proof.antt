@@ -14,7 +14,11 @@ abbrev μ-loop : tie.MeasureT-loop
 μ-loop arena kind ms n out₀ k₀ i₀ out k i = n - i
 
 loop-again : tie.Need-loop-again Inv-loop μ-loop
-loop-again c = (flattening-more (c .before .before .before .before .before .before .loop .inv .0) (c .before .before .before .before .before .loop-test .taken) (c .before .before .before .at .ensures) (c .before .flatten-one .ensures), search needs)
+loop-again c =
+    let at-at = c .before .before .before in
+    let at-loop-test = at-at .before .before in
+    let at-loop = at-loop-test .before in
+    (flattening-more (at-loop .loop .inv .0) (at-loop-test .loop-test .taken) (at-at .at .ensures) (c .before .flatten-one .ensures), search needs)
 
 pub flatten-all-spec : {M : Type 1} → statement M
 flatten-all-spec =

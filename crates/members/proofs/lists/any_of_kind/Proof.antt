@@ -13,10 +13,26 @@ abbrev μ-loop : tie.MeasureT-loop
 μ-loop arena kind ms n i₀ i = n - i
 
 returns : tie.Need-returns Inv-loop μ-loop
-returns c = record { is = λ h t. searching-here (c .before .before .before .before .before .loop .inv) (c .before .before .before .before .loop-test .taken) (c .before .before .at .ensures) (record { is = λ a h p lt. c .before .is .ensures .is h lt }) (c .if1 .taken) .is tt h tt t }
+returns c =
+    let at-at = c .before .before in
+    let at-loop-test = at-at .before .before in
+    let at-loop = at-loop-test .before in
+    record {
+      is = λ h t. searching-here (at-loop .loop .inv) (at-loop-test .loop-test .taken) (at-at .at .ensures) (record {
+        is = λ a h p lt. c
+            .before .is .ensures .is h lt;
+      }) (c .if1 .taken) .is tt h tt t;
+    }
 
 loop-again : tie.Need-loop-again Inv-loop μ-loop
-loop-again c = searching-more (c .before .before .before .before .before .loop .inv) (c .before .before .before .before .loop-test .taken) (c .before .before .at .ensures) (record { is = λ a h p lt. c .before .is .ensures .is h lt }) (c .if1 .left)
+loop-again c =
+    let at-at = c .before .before in
+    let at-loop-test = at-at .before .before in
+    let at-loop = at-loop-test .before in
+    searching-more (at-loop .loop .inv) (at-loop-test .loop-test .taken) (at-at .at .ensures) (record {
+      is = λ a h p lt. c .before .is .ensures .is h
+          lt;
+    }) (c .if1 .left)
 
 pub any-of-kind-spec : {M : Type 1} → statement M
 any-of-kind-spec =

@@ -14,4 +14,5 @@ abbrev μ-loop : tie.MeasureT-loop
 pub contains-spec : {M : Type 1} → statement M
 contains-spec =
     tie.close
-    (tie.spec Inv-loop μ-loop (λ c. search containing-start) (λ c _. search needs) (λ c. search containing-here) (λ c. search needs) (λ c. search needs) (λ c. search containing-more) (λ c. search containing-done))
+    (tie.spec Inv-loop μ-loop (λ c. search containing-start) (λ c _. search needs) (λ c. search containing-here) (λ c. search needs) (λ c. search needs)
+    (λ c. search containing-more) (λ c. search containing-done))

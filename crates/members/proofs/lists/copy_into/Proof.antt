@@ -13,7 +13,14 @@ abbrev μ-loop : tie.MeasureT-loop
 μ-loop out₀ k ms n i₀ out i = n - i
 
 loop-again : tie.Need-loop-again Inv-loop μ-loop
-loop-again c = filling-more (c .before .before .before .before .before .before .before .before .loop .inv) (c .before .before .before .before .before .before .before .loop-test .taken) (c .before .before .before .before .before .place .ensures) (omega arith) (c .before .before .before .at .ensures) (c .before .before .put .ensures)
+loop-again c =
+    let at-put = c .before .before in
+    let at-at = at-put .before in
+    let at-place = at-at .before .before in
+    let at-loop-test = at-place .before .before in
+    let at-loop = at-loop-test .before in
+    filling-more (at-loop .loop .inv) (at-loop-test .loop-test .taken) (at-place .place .ensures) (omega arith) (at-at .at .ensures) (at-put .put
+    .ensures)
 
 pub copy-into-spec : {M : Type 1} → statement M
 copy-into-spec =

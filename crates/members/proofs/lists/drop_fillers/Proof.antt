@@ -16,7 +16,17 @@ abbrev μ-loop : tie.MeasureT-loop
 μ-loop arena table f count ms n out₀ k₀ i₀ out k i = n - i
 
 loop-again : tie.Need-loop-again Inv-loop μ-loop
-loop-again c = (sifting-more (c .before .before .before .before .before .before .before .loop .inv .0) (c .before .before .before .before .before .before .loop-test .taken) (c .before .before .before .before .at .ensures) (record { is = λ p h pre lt. ap not (c .before .before .should-drop-filler .ensures .is pre .is h lt) }) (c .before .keep-if .ensures), search needs)
+loop-again c =
+    let at-should-drop-filler = c .before .before in
+    let at-at = at-should-drop-filler .before .before in
+    let at-loop-test = at-at .before .before in
+    let at-loop = at-loop-test .before in (
+      sifting-more (at-loop .loop .inv .0) (at-loop-test .loop-test .taken) (at-at .at .ensures) (record {
+        is = λ p h pre lt. ap not
+            (at-should-drop-filler .should-drop-filler .ensures .is pre .is h lt);
+      }) (c .before .keep-if .ensures),
+      search needs,
+    )
 
 returns : tie.Need-returns Inv-loop μ-loop
 returns c = record { is = λ {p} pre. record { is = λ h t. sifting-done (c .before .loop .inv .0) (c .loop-test .left) .is p h pre t } }

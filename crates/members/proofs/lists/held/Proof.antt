@@ -13,7 +13,13 @@ abbrev μ-loop : tie.MeasureT-loop
 μ-loop s h n out₀ i₀ out i = n - i
 
 loop-again : tie.Need-loop-again Inv-loop μ-loop
-loop-again c = filling-more (c .before .before .before .before .before .before .loop .inv) (c .before .before .before .before .before .loop-test .taken) (omega arith) (c .before .before .before .place .ensures) (c .before .before .get .ensures) (c .before .set .ensures)
+loop-again c =
+    let at-get = c .before .before in
+    let at-place = at-get .before in
+    let at-loop-test = at-place .before .before in
+    let at-loop = at-loop-test .before in
+    filling-more (at-loop .loop .inv) (at-loop-test .loop-test .taken) (omega arith) (at-place .place .ensures) (at-get .get .ensures) (c .before .set
+    .ensures)
 
 pub held-spec : {M : Type 1} → statement M
 held-spec =

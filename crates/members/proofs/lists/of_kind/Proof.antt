@@ -15,7 +15,17 @@ abbrev μ-loop : tie.MeasureT-loop
 μ-loop arena kind wanted ms n out₀ k₀ i₀ out k i = n - i
 
 loop-again : tie.Need-loop-again Inv-loop μ-loop
-loop-again c = (sifting-more (c .before .before .before .before .before .before .before .loop .inv .0) (c .before .before .before .before .before .before .loop-test .taken) (c .before .before .before .before .at .ensures) (record { is = λ a h p lt. c .before .before .of-that-kind .ensures .is h lt }) (c .before .keep-if .ensures), search needs)
+loop-again c =
+    let at-of-that-kind = c .before .before in
+    let at-at = at-of-that-kind .before .before in
+    let at-loop-test = at-at .before .before in
+    let at-loop = at-loop-test .before in (
+      sifting-more (at-loop .loop .inv .0) (at-loop-test .loop-test .taken) (at-at .at .ensures) (record {
+        is = λ a h p lt. at-of-that-kind
+            .of-that-kind .ensures .is h lt;
+      }) (c .before .keep-if .ensures),
+      search needs,
+    )
 
 pub of-kind-spec : {M : Type 1} → statement M
 of-kind-spec =

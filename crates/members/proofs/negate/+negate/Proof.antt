@@ -37,28 +37,92 @@ negate-μ-loop arena₀ held₀ h x i₀ arena held i = 4294967295 - i
 
 -- what `negate` is told of the functions that it calls
 abbrev negate-calls : ℕ → negate-lts.Claims
-negate-calls t = (is-reads.Asked, is-reads.Learnt, word-reads.Asked, word-reads.Learnt, count-reads.Asked, count-reads.Learnt, store-negation-reads.Asked, store-negation-reads.Learnt, member-reads.Asked, member-reads.Learnt, add-reads.Asked, add-reads.Learnt, negate-below t, negate.Post, place-reads.Asked, place-reads.Learnt, put-reads.Asked, put-reads.Learnt)
+negate-calls t = (
+  is-reads.Asked,
+  is-reads.Learnt,
+  word-reads.Asked,
+  word-reads.Learnt,
+  count-reads.Asked,
+  count-reads.Learnt,
+  store-negation-reads.Asked,
+  store-negation-reads.Learnt,
+  member-reads.Asked,
+  member-reads.Learnt,
+  add-reads.Asked,
+  add-reads.Learnt,
+  negate-below t,
+  negate.Post,
+  place-reads.Asked,
+  place-reads.Learnt,
+  put-reads.Asked,
+  put-reads.Learnt,
+)
 
 negate-returns : (t : ℕ) → negate-lts.Need-returns (negate-calls t) (negate-at t) negate.Post negate-Inv-loop negate-μ-loop
 negate-returns t c = negates-neg (c .before .before .before .is .ensures) (c .before .before .if1 .taken) (c .word .ensures)
 
 negate-returns-2 : (t : ℕ) → negate-lts.Need-returns-2 (negate-calls t) (negate-at t) negate.Post negate-Inv-loop negate-μ-loop
-negate-returns-2 t c = negates-done negating-start (c .before .before .before .before .before .before .before .before .before .before .before .is .ensures) (c .before .before .before .before .before .before .before .before .before .before .if1 .left) (c .before .before .before .before .before .before .before .before .count .ensures) (omega (arith, c .before .before .before .before .before .before .before .if2 .taken)) (c .before .before .before .before .store-negation .ensures)
+negate-returns-2 t c =
+    let at-store-negation = c .before .before .before .before in
+    let at-if2 = at-store-negation .before .before .before in
+    let at-count = at-if2 .before in
+    let at-if1 = at-count .before .before in
+    let at-is = at-if1 .before in
+    negates-done negating-start (at-is .is .ensures) (at-if1 .if1 .left) (at-count .count .ensures) (omega (arith, at-if2 .if2 .taken))
+    (at-store-negation .store-negation .ensures)
 
 negate-loop-holds : (t : ℕ) → negate-lts.Need-loop-holds (negate-calls t) (negate-at t) negate.Post negate-Inv-loop negate-μ-loop
 negate-loop-holds t c = negating-start
 
 negate-returns-3 : (t : ℕ) → negate-lts.Need-returns-3 (negate-calls t) (negate-at t) negate.Post negate-Inv-loop negate-μ-loop
-negate-returns-3 t c = negates-never (c .before .before .before .before .before .before .loop .inv) (c .before .before .before .before .count2 .ensures) (c .before .before .before .if3 .taken) (c .before .member .ensures) (c .if4 .taken)
+negate-returns-3 t c =
+    let at-if3 = c .before .before .before in
+    let at-count2 = at-if3 .before in
+    let at-loop = at-count2 .before .before in
+    negates-never (at-loop .loop .inv) (at-count2 .count2 .ensures) (at-if3 .if3 .taken) (c .before .member .ensures) (c .if4 .taken)
 
 negate-loop-again : (t : ℕ) → negate-lts.Need-loop-again (negate-calls t) (negate-at t) negate.Post negate-Inv-loop negate-μ-loop
-negate-loop-again t c = negating-more (c .before .before .before .before .before .before .before .before .before .before .before .before .before .before .before .before .before .before .before .before .before .before .before .before .loop .inv) (c .before .before .before .before .before .before .before .before .before .before .before .before .before .before .before .before .before .before .before .before .before .before .count2 .ensures) (c .before .before .before .before .before .before .before .before .before .before .before .before .before .before .before .before .before .before .before .before .before .if3 .taken) (c .before .before .before .before .before .before .before .before .before .before .before .before .before .before .before .before .before .before .before .member .ensures) (c .before .before .before .before .before .before .before .before .before .before .before .before .before .before .before .before .before .before .if4 .left) (c .before .before .before .before .before .before .before .before .before .before .before .before .before .before .before .before .count3 .ensures) (c .before .before .before .before .before .before .before .before .before .before .before .before .before .before .before .add .ensures) (c .before .before .before .before .before .before .before .before .before .before .before .before .negate .ensures) (c .before .before .before .before .before .before .y .given .1) (c .before .before .before .before .before .before .before .before .before .before .before .before .negate .kept .0) (c .before .before .before .before .before .before .before .before .before .before .before .before .negate .kept .1 .0) (c .before .before .before .place .ensures) (c .before .before .put .ensures)
+negate-loop-again t c =
+    let at-put = c .before .before in
+    let at-place = at-put .before in
+    let at-y = at-place .before .before .before in
+    let at-negate = at-y .before .before .before .before .before .before in
+    let at-add = at-negate .before .before .before in
+    let at-count3 = at-add .before in
+    let at-if4 = at-count3 .before .before in
+    let at-member = at-if4 .before in
+    let at-if3 = at-member .before .before in
+    let at-count2 = at-if3 .before in
+    let at-loop = at-count2 .before .before in
+    negating-more (at-loop .loop .inv) (at-count2 .count2 .ensures) (at-if3 .if3 .taken) (at-member .member .ensures) (at-if4 .if4 .left) (at-count3
+    .count3 .ensures) (at-add .add .ensures) (at-negate .negate .ensures) (at-y .y .given .1) (at-negate .negate .kept .0) (at-negate .negate .kept .1
+    .0) (at-place .place .ensures) (at-put .put .ensures)
 
 negate-returns-4 : (t : ℕ) → negate-lts.Need-returns-4 (negate-calls t) (negate-at t) negate.Post negate-Inv-loop negate-μ-loop
-negate-returns-4 t c = negates-refused (c .before .before .before .before .before .before .before .before .before .before .before .before .before .before .before .before .before .before .before .loop .inv) (c .before .before .before .before .before .before .before .before .before .before .before .before .before .before .before .before .before .count2 .ensures) (c .before .before .before .before .before .before .before .before .before .before .before .before .before .before .before .before .if3 .taken) (c .before .before .before .before .before .before .before .before .before .before .before .before .before .before .member .ensures) (c .before .before .before .before .before .before .before .before .before .before .before .before .before .if4 .left) (c .before .before .before .before .before .before .before .before .before .before .before .count3 .ensures) (c .before .before .before .before .before .before .before .before .before .before .add .ensures) (c .before .before .before .before .before .before .before .negate .ensures) (c .before .before .before .before .before .before .before .before .before .before .before .before .before .before .before .before .before .before .before .before .before .before .before .before .is .ensures) (c .before .before .before .before .before .before .before .before .before .before .before .before .before .before .before .before .before .before .before .before .before .before .before .if1 .left) (c .before .k .given .1)
+negate-returns-4 t c =
+    let at-negate = c .before .before .before .before .before .before .before in
+    let at-add = at-negate .before .before .before in
+    let at-count3 = at-add .before in
+    let at-if4 = at-count3 .before .before in
+    let at-member = at-if4 .before in
+    let at-if3 = at-member .before .before in
+    let at-count2 = at-if3 .before in
+    let at-loop = at-count2 .before .before in
+    let at-if1 = at-loop .before .before .before .before in
+    let at-is = at-if1 .before in
+    negates-refused (at-loop .loop .inv) (at-count2 .count2 .ensures) (at-if3 .if3 .taken) (at-member .member .ensures) (at-if4 .if4 .left) (at-count3
+    .count3 .ensures) (at-add .add .ensures) (at-negate .negate .ensures) (at-is .is .ensures) (at-if1 .if1 .left) (c .before .k .given .1)
 
 negate-returns-5 : (t : ℕ) → negate-lts.Need-returns-5 (negate-calls t) (negate-at t) negate.Post negate-Inv-loop negate-μ-loop
-negate-returns-5 t c = negates-done (c .before .before .before .before .before .before .before .before .before .before .loop .inv) (c .before .before .before .before .before .before .before .before .before .before .before .before .before .before .before .is .ensures) (c .before .before .before .before .before .before .before .before .before .before .before .before .before .before .if1 .left) (c .before .before .before .before .before .before .before .before .count2 .ensures) (c .before .before .before .before .before .before .before .if3 .left) (c .before .before .before .before .store-negation2 .ensures)
+negate-returns-5 t c =
+    let at-store-negation2 = c .before .before .before .before in
+    let at-if3 = at-store-negation2 .before .before .before in
+    let at-count2 = at-if3 .before in
+    let at-loop = at-count2 .before .before in
+    let at-if1 = at-loop .before .before .before .before in
+    let at-is = at-if1 .before in
+    negates-done (at-loop .loop .inv) (at-is .is .ensures) (at-if1 .if1 .left) (at-count2 .count2 .ensures) (at-if3 .if3 .left) (at-store-negation2
+    .store-negation2 .ensures)
 
 pub +negate-spec : {M : Type 1} → statement M
 +negate-spec = close μ-negate λ t. negate-lts.spec (negate-calls t)

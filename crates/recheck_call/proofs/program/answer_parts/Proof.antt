@@ -10,14 +10,7 @@ slice-aggregate-answer-recheck : tie.Need-slice-aggregate-answer-recheck
 slice-aggregate-answer-recheck c = sym (length-take-le _ _ (search needs))
 
 returns : tie.Need-returns
-returns c =
-    let answer-recheck = c .before .before .answer-recheck in
-    let behind2 = c .before .before .before .before .before .before .before .behind2 in
-    let until-next2 = c .before .before .before .before .before .before .before .before .until-next2 in
-    let behind = c .before .before .before .before .before .before .before .before .before .behind in
-    let until-next = c .before .before .before .before .before .before .before .before .before .before .until-next in
-    let args = c .before .before .before .before .before .before .before .before .before .before .before .before .before .args in
-    parts-shown (args .input .now) (until-next .ensures) (behind .ensures) (until-next2 .ensures) (behind2 .ensures) (answer-recheck .ensures)
+returns c = search parts-shown
 
 pub answer-parts-spec : {M : Type 1} → statement M
 answer-parts-spec =

@@ -13,10 +13,19 @@ abbrev μ-loop : tie.MeasureT-loop
 μ-loop arena t s n i₀ i = n - i
 
 returns : tie.Need-returns Inv-loop μ-loop
-returns c = record { is = λ {q} {ns} {xs} h m. searching-here (c .before .before .before .before .loop .inv) (c .before .before .before .loop-test .taken) (c .before .before .at .ensures) (record { is = λ xs h m lt. c .before .passes .ensures .is h m lt }) (c .if1 .taken) .is xs h m m }
+returns c =
+    let at-at = c .before .before in
+    let at-loop-test = at-at .before in
+    let at-loop = at-loop-test .before in
+    record {
+      is = λ {q} {ns} {xs} h m. searching-here (at-loop .loop .inv) (at-loop-test .loop-test .taken) (at-at .at .ensures) (record {
+        is = λ xs h
+            m lt. c .before .passes .ensures .is h m lt;
+      }) (c .if1 .taken) .is xs h m m;
+    }
 
 loop-again : tie.Need-loop-again Inv-loop μ-loop
-loop-again c = searching-more (c .before .before .before .before .loop .inv) (c .before .before .before .loop-test .taken) (c .before .before .at .ensures) (record { is = λ xs h m lt. c .before .passes .ensures .is h m lt }) (c .if1 .left)
+loop-again c = search searching-more
 
 returns-2 : tie.Need-returns-2 Inv-loop μ-loop
 returns-2 c = record { is = λ {q} {ns} {xs} h m. searching-done (c .before .loop .inv) (c .loop-test .left) .is xs h m m }

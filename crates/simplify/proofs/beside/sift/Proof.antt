@@ -15,7 +15,17 @@ abbrev μ-loop : tie.MeasureT-loop
 μ-loop arena t s n ms c out₀ k₀ i₀ out k i = c - i
 
 loop-again : tie.Need-loop-again Inv-loop μ-loop
-loop-again c = (sifting-more (c .before .before .before .before .before .before .before .loop .inv .0) (c .before .before .before .before .before .before .loop-test .taken) (c .before .before .before .before .at .ensures) (record { is = λ xs h m lt. c .before .before .keeps .ensures .is h m lt }) (c .before .keep-if .ensures), search needs)
+loop-again c =
+    let at-keeps = c .before .before in
+    let at-at = at-keeps .before .before in
+    let at-loop-test = at-at .before .before in
+    let at-loop = at-loop-test .before in (
+      sifting-more (at-loop .loop .inv .0) (at-loop-test .loop-test .taken) (at-at .at .ensures) (record {
+        is = λ xs h m lt. at-keeps .keeps .ensures
+            .is h m lt;
+      }) (c .before .keep-if .ensures),
+      search needs,
+    )
 
 returns : tie.Need-returns Inv-loop μ-loop
 returns c = record { is = λ {q} {ns} {xs} h b m. sifting-done (c .before .loop .inv .0) (c .loop-test .left) .is xs h b m }

@@ -14,7 +14,13 @@ abbrev μ-loop : tie.MeasureT-loop
 μ-loop arena₀ ms n out₀ k₀ q₀ i₀ arena out k q i = n - i
 
 returns : tie.Need-returns Inv-loop μ-loop
-returns c = simplifying-refused (c .before .before .before .before .before .before .before .before .before .before .before .before .loop .inv .0) (c .before .before .before .before .before .before .before .before .before .before .before .loop-test .taken) (c .before .before .before .before .before .before .before .simplify-one .ensures) (c .before .before .why .given .1) (c .refused .ensures)
+returns c =
+    let at-why = c .before .before in
+    let at-simplify-one = at-why .before .before .before .before .before in
+    let at-loop-test = at-simplify-one .before .before .before .before in
+    let at-loop = at-loop-test .before in
+    simplifying-refused (at-loop .loop .inv .0) (at-loop-test .loop-test .taken) (at-simplify-one .simplify-one .ensures) (at-why .why .given .1) (c
+    .refused .ensures)
 
 pub simplify-each-spec : {M : Type 1} → statement M
 simplify-each-spec =

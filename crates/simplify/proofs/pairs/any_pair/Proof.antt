@@ -14,10 +14,26 @@ abbrev μ-loop : tie.MeasureT-loop
 μ-loop arena t s from n x i₀ i = n - i
 
 returns : tie.Need-returns Inv-loop μ-loop
-returns c = record { is = λ h m l. searching-here (c .before .before .before .before .loop .inv) (c .before .before .before .loop-test .taken) (c .before .before .at .ensures) (record { is = λ a h l k. c .before .holds .ensures .is h l k }) (c .if1 .taken) .is tt h l m }
+returns c =
+    let at-at = c .before .before in
+    let at-loop-test = at-at .before in
+    let at-loop = at-loop-test .before in
+    record {
+      is = λ h m l. searching-here (at-loop .loop .inv) (at-loop-test .loop-test .taken) (at-at .at .ensures) (record {
+        is = λ a h l k. c
+            .before .holds .ensures .is h l k;
+      }) (c .if1 .taken) .is tt h l m;
+    }
 
 loop-again : tie.Need-loop-again Inv-loop μ-loop
-loop-again c = searching-more (c .before .before .before .before .loop .inv) (c .before .before .before .loop-test .taken) (c .before .before .at .ensures) (record { is = λ a h l k. c .before .holds .ensures .is h l k }) (c .if1 .left)
+loop-again c =
+    let at-at = c .before .before in
+    let at-loop-test = at-at .before in
+    let at-loop = at-loop-test .before in
+    searching-more (at-loop .loop .inv) (at-loop-test .loop-test .taken) (at-at .at .ensures) (record {
+      is = λ a h l k. c .before .holds .ensures .is
+          h l k;
+    }) (c .if1 .left)
 
 pub any-pair-spec : {M : Type 1} → statement M
 any-pair-spec =
