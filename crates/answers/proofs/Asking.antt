@@ -19,7 +19,7 @@ use Rattle.prepare.specs.Prepares.{rootAt}
 use Rattle.prepare.proofs.Facts.{map-run}
 use Rattle.listing.specs.Writes.{Wrote}
 use Rattle.laws.proofs.Containing.{flag-zero}
-use Rattle.old_listing.specs.Olds.{rootSpan}
+use Rattle.text.specs.Reads.{spanAt}
 use Rattle.listing.proofs.Texts.{wrote-more, wrote-as}
 use Rattle.answers.specs.declared.asked.Asked.{Asked}
 use Rattle.answers.specs.declared.asked.Asked.the-variants.{All, Root as RootA, Mixed}
@@ -72,9 +72,9 @@ module _ {T₁ T₂ : rules.Table} {listing old table arena work : List ℕ} {te
 
   -- the lines of each root of a run, by the rules
   abbrev linesBy : ℕ → List ℕ
-  linesBy i = if (redone T₁ T₂ (root i)) (λ _. rootTextOf T₂ (root i)) (λ _. rootSpan listing old i)
+  linesBy i = if (redone T₁ T₂ (root i)) (λ _. rootTextOf T₂ (root i)) (λ _. spanAt listing old i)
 
-  rechecked-run : (a n : ℕ) → rechecked T₁ T₂ (run root a n) (run (rootSpan listing old) a n) ≡ run linesBy a n
+  rechecked-run : (a n : ℕ) → rechecked T₁ T₂ (run root a n) (run (spanAt listing old) a n) ≡ run linesBy a n
   rechecked-run a zero = refl
   rechecked-run a (suc n) = ap (λ (l : List (List ℕ)). linesBy a ∷ l) (rechecked-run (suc a) n)
 
@@ -85,7 +85,7 @@ module _ {T₁ T₂ : rules.Table} {listing old table arena work : List ℕ} {te
   lines-are : run (linesAt listing old true T₂ table (g .first)) 0 (g .roots) ≡ rechecked T₁ T₂ (T₂ .roots) texts
   lines-are =
       run-ext (linesAt listing old true T₂ table (g .first)) linesBy 0 (g .roots)
-      (λ i low lt. turned (keptAt old true i) (redone T₁ T₂ (root i)) (rootSpan listing old i) (rootTextOf T₂ (root i)) (kept-redone i (omega arith)))
+      (λ i low lt. turned (keptAt old true i) (redone T₁ T₂ (root i)) (spanAt listing old i) (rootTextOf T₂ (root i)) (kept-redone i (omega arith)))
       ∙ sym (rechecked-run 0 (g .roots))
       ∙ ap₂ {C = List (List ℕ)} (rechecked T₁ T₂) (sym (roots-read u)) (h .lines .are)
 

@@ -19,12 +19,11 @@ use Rattle.rules.specs.Listing.{rootText, rootTextOf, answersText}
 use Rattle.rules.specs.Calls.{redoneWord}
 use Rattle.laws.specs.Sound.{mostRootText}
 use Rattle.laws.proofs.Bounding.{answers-bounded}
-use Rattle.text.specs.Reads.{span}
+use Rattle.text.specs.Reads.{span, spanAt}
 use Rattle.text.proofs.Spans.{span-none, span-length}
 use Rattle.prepare.specs.declared.Prepared.{Prepared}
 use Rattle.prepare.specs.Prepares.{rootAt}
 use Rattle.listing.specs.Writes.{Wrote}
-use Rattle.old_listing.specs.Olds.{rootSpan}
 use Rattle.listing.proofs.Texts.{wrote-none, wrote-more, wrote-as}
 use Rattle.answers.specs.Runs.{Running, Bounded, WritesRoot}
 use Rattle.answers.specs.Mixes.{keptAt, IsKept, tabBefore, wordAt, WritesOld, Lying, linesAt, WritesNext, allLines, WritesRoots}
@@ -138,10 +137,10 @@ module _ {listing : List ℕ} {p from to : ℕ} {o : List ℕ} where
 
 -- each way out of `write_root`: by the root's flag, and by the cells of its row
 lines-turn : (listing old : List ℕ) (mixed : Bool) (T : rules.Table) (table : List ℕ) (first i : ℕ) {p r : ℕ} {o o′ : List ℕ} (x : Bool) → keptAt old mixed i ≡ x
-    → Bounded mostRootText (if x (λ _. rootSpan listing old i) (λ _. rootTextOf T (rootAt table (first + i)))) p o o′ r
+    → Bounded mostRootText (if x (λ _. spanAt listing old i) (λ _. rootTextOf T (rootAt table (first + i)))) p o o′ r
     → Bounded mostRootText (linesAt listing old mixed T table first i) p o o′ r
 lines-turn listing old mixed T table first i {p} {r} {o} {o′} x e =
-    subst (λ (y : Bool). Bounded mostRootText (if y (λ _. rootSpan listing old i) (λ _. rootTextOf T (rootAt table (first + i)))) p o o′ r) (sym e)
+    subst (λ (y : Bool). Bounded mostRootText (if y (λ _. spanAt listing old i) (λ _. rootTextOf T (rootAt table (first + i)))) p o o′ r) (sym e)
 
 module _ {listing old table arena work : List ℕ} {g : Prepared} {mixed : Bool} {p i r : ℕ} {o : List ℕ} {b : Bool} (k : IsKept old mixed i b) where
   pub lines-kept : {o′ : List ℕ} {from q to : ℕ} → b ≡ true → from ≡ cell old i → q ≡ 1 + i → to ≡ cell old q → WritesOld listing p from to o o′ r

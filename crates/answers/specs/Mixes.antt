@@ -15,16 +15,15 @@ use Rattle.rules.specs.Table as rules
 use Rattle.rules.specs.Listing.{rootTextOf, answersText}
 use Rattle.rules.specs.Calls.{redone, redoneWord}
 use Rattle.laws.specs.Sound.{mostRootText}
-use Rattle.text.specs.Reads.{span}
+use Rattle.text.specs.Reads.{span, spanAt}
 use Rattle.prepare.specs.declared.Prepared.{Prepared}
 use Rattle.prepare.specs.Prepares.{rootAt}
 use Rattle.listing.specs.Writes.{Wrote}
-use Rattle.old_listing.specs.Olds.{rootSpan}
 use Rattle.answers.specs.Runs.{Running, Bounded}
 
 -- the old lines of n roots, each a part of the listing that begins and ends where the slice tells
 pub record OldLines (listing : List ℕ) (texts : List (List ℕ)) (old : List ℕ) (n : ℕ) : Type 0 where
-  pub are : run (rootSpan listing old) 0 n ≡ texts
+  pub are : run (spanAt listing old) 0 n ≡ texts
   pub within : (i : ℕ) → i < n → cell old (i + 1) ≤ length listing
   pub short : length listing ≤ mostText
 
@@ -59,7 +58,7 @@ pub record Lying (listing old : List ℕ) (mixed : Bool) (n : ℕ) : Type 0 wher
 -- the lines of root i: the old ones if it is kept, those that the table gives if not
 abbrev pub linesAt : List ℕ → List ℕ → Bool → rules.Table → List ℕ → ℕ → ℕ → List ℕ
 linesAt listing old mixed T table first i =
-    if (keptAt old mixed i) (λ _. rootSpan listing old i) (λ _. rootTextOf T (rootAt table (first + i)))
+    if (keptAt old mixed i) (λ _. spanAt listing old i) (λ _. rootTextOf T (rootAt table (first + i)))
 
 pub record WritesNext (listing old : List ℕ) (mixed : Bool) (table : List ℕ) (g : Prepared) (arena work : List ℕ) (p i : ℕ) (o table′ o′ : List ℕ) (r : ℕ)
     : Type 0 where

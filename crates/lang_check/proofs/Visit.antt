@@ -149,8 +149,7 @@ module _ {table : List ℕ} {c : Canon} {w work : List ℕ} {free h : ℕ} {q : 
               nodes = two .nodes ∙ one .nodes;
               cells = two .cells ∙ one .cells;
               ops = two .ops ∙ one .ops ∙ ap tick (sym (on .ops));
-              sorted = two .sorted
-                  ∙ one .sorted;
+              sorted = two .sorted ∙ one .sorted;
               bailed = two .bailed ∙ sym f;
             } in
             answers-out (sym (visit-is free p t id pol st ∙ entered-over p id pol (ahead free p t id pol) st (on .bailed ∙ e) f))

@@ -25,7 +25,7 @@ use Rattle.text.specs.declared.Num.{Num}
 use Rattle.text.specs.declared.Num.the-variants.{No, Is}
 use Rattle.text.specs.declared.Got.{Got}
 use Rattle.text.specs.declared.Got.the-variants.{Bad, To}
-use Rattle.text.specs.Reads.{span, left, numOf, gotWords, Seek, Number, FieldRoom, Row}
+use Rattle.text.specs.Reads.{span, spanAt, left, numOf, gotWords, Seek, Number, FieldRoom, Row}
 use Rattle.text.proofs.Spans.{span-none, span-next, span-snoc, span-append, span-whole}
 use Rattle.text.proofs.Leaves.{cut-some}
 use Rattle.text.proofs.Shaping.{pieces-here}
@@ -34,7 +34,7 @@ use Rattle.old_listing.specs.declared.Old.{Old}
 use Rattle.old_listing.specs.declared.Old.the-variants.{InForm, Refused}
 use Rattle.old_listing.specs.declared.Reached.{Reached}
 use Rattle.old_listing.specs.declared.Reached.the-variants.{At as AtV, Fault}
-use Rattle.old_listing.specs.Olds.{asked, row, NodeFits, NodeLine, Ready, takingAt, nextOf, Goes, Nodes, Count, After, TakesRoot, RootsAt, RootWord, rootSpan, Roots, IsAnswers, Read}
+use Rattle.old_listing.specs.Olds.{asked, row, NodeFits, NodeLine, Ready, takingAt, nextOf, Goes, Nodes, Count, After, TakesRoot, RootsAt, RootWord, Roots, IsAnswers, Read}
 use mathlib.Core.Option.{Option, none, some}
 
 -- a line's row, or none
@@ -293,7 +293,7 @@ withRest names rs o = then o (λ (d : Taking). then (takeRoots names rs d) (λ (
 
 -- the texts of the roots before i, and those that m says
 abbrev joined : List ℕ → List ℕ → ℕ → ℕ → Result (List (List ℕ)) → Result (List (List ℕ))
-joined s spans at i m = then m (λ (ts : List (List ℕ)). accepted (run (rootSpan s (set spans i at)) 0 i ++ ts))
+joined s spans at i m = then m (λ (ts : List (List ℕ)). accepted (run (spanAt s (set spans i at)) 0 i ++ ts))
 
 -- the roots from i on, after the texts of those before
 abbrev rootsFrom : List ℕ → ℕ → List Root → List ℕ → ℕ → ℕ → ℕ → Result (List (List ℕ))
@@ -331,17 +331,17 @@ set-others : (spans₀ spans : List ℕ) (i at n : ℕ) → i ≤ n → ((k : �
 set-others spans₀ spans i at n h same k lt = getD-set-other spans i k at 0 (omega arith) ∙ same k lt
 
 -- the texts so far, with one more
-got-more : (s spans : List ℕ) (at q i : ℕ) → i + 1 < length spans → run (rootSpan s (set (set spans i at) (i + 1) q)) 0 (i + 1) ≡ run (rootSpan s (set spans i at)) 0 i ++ (span s at q ∷ [])
+got-more : (s spans : List ℕ) (at q i : ℕ) → i + 1 < length spans → run (spanAt s (set (set spans i at) (i + 1) q)) 0 (i + 1) ≡ run (spanAt s (set spans i at)) 0 i ++ (span s at q ∷ [])
 got-more s spans at q i h =
-    ap (λ (m : ℕ). run (rootSpan s (set (set spans i at) (i + 1) q)) 0 m) (add-one i)
-    ∙ run-snoc (rootSpan s (set (set spans i at) (i + 1) q)) 0 i
+    ap (λ (m : ℕ). run (spanAt s (set (set spans i at) (i + 1) q)) 0 m) (add-one i)
+    ∙ run-snoc (spanAt s (set (set spans i at) (i + 1) q)) 0 i
     ∙ ap₂ {C = List (List ℕ)} (λ (l : List (List ℕ)) (x : List ℕ). l ++ (x ∷ [])) before here
   where
     same : (j : ℕ) → j ≤ i → cell (set (set spans i at) (i + 1) q) j ≡ cell (set spans i at) j
     same j l = getD-set-other (set spans i at) (i + 1) j q 0 (omega arith)
 
-    before : run (rootSpan s (set (set spans i at) (i + 1) q)) 0 i ≡ run (rootSpan s (set spans i at)) 0 i
-    before = run-ext (rootSpan s (set (set spans i at) (i + 1) q)) (rootSpan s (set spans i at)) 0 i (λ j a b. ap₂ {C = List ℕ} (span s) (same j (omega arith)) (same (j + 1) (omega arith)))
+    before : run (spanAt s (set (set spans i at) (i + 1) q)) 0 i ≡ run (spanAt s (set spans i at)) 0 i
+    before = run-ext (spanAt s (set (set spans i at) (i + 1) q)) (spanAt s (set spans i at)) 0 i (λ j a b. ap₂ {C = List ℕ} (span s) (same j (omega arith)) (same (j + 1) (omega arith)))
 
     first : cell (set (set spans i at) (i + 1) q) (0 + i) ≡ at
     first = ap (cell (set (set spans i at) (i + 1) q)) (let z : 0 + i ≡ i = omega arith in z) ∙ same i (omega arith) ∙ getD-set-same spans i at 0 (omega arith)
@@ -351,7 +351,7 @@ got-more s spans at q i h =
         ap (cell (set (set spans i at) (i + 1) q)) (let z : 0 + i + 1 ≡ i + 1 = omega arith in z)
         ∙ getD-set-same (set spans i at) (i + 1) q 0 (let z = length-set spans i at in omega arith)
 
-    here : rootSpan s (set (set spans i at) (i + 1) q) (0 + i) ≡ span s at q
+    here : spanAt s (set (set spans i at) (i + 1) q) (0 + i) ≡ span s at q
     here = ap₂ {C = List ℕ} (span s) first second
 
 -- root i, and those after it
@@ -398,8 +398,8 @@ module _ {s table spans₀ spans spans₁ : List ℕ} {from names first n at lin
         is = λ rs g l.
             ap₂ {C = Result (List (List ℕ))} (λ (m : Result (List (List ℕ))) (got : List (List ℕ)). then m (λ (ts : List (List ℕ)). accepted (got ++ ts)))
             (roots-blank s names q at q k (drop (i + 1) rs))
-            (ap (λ (w : List ℕ). run (rootSpan s (set w (i + 1) q)) 0 (i + 1)) st ∙ got-more s spans at q i (let c = inv .kept in omega arith))
-            ∙ sym (then-more (takeRoots names (drop (i + 1) rs) (takingAt s at q k)) (span s at q) (run (rootSpan s (set spans i at)) 0 i))
+            (ap (λ (w : List ℕ). run (spanAt s (set w (i + 1) q)) 0 (i + 1)) st ∙ got-more s spans at q i (let c = inv .kept in omega arith))
+            ∙ sym (then-more (takeRoots names (drop (i + 1) rs) (takingAt s at q k)) (span s at q) (run (spanAt s (set spans i at)) 0 i))
             ∙ step-here rs g l (AtV q k) e;
       }
 
@@ -427,7 +427,7 @@ module _ {s table spans₀ spans : List ℕ} {from names first n at line i : ℕ
     pub rooting-done : length s ≤ at → Roots s from names table first n spans₀ spans₁ InForm
     rooting-done l = record {
       is = λ rs g m.
-          ap (λ (q : List (List ℕ)). accepted q) (ap (λ (w : List ℕ). run (rootSpan s w) 0 n) st ∙ sym (append-nil (run (rootSpan s (set spans n at)) 0 n)))
+          ap (λ (q : List (List ℕ)). accepted q) (ap (λ (w : List ℕ). run (spanAt s w) 0 n) st ∙ sym (append-nil (run (spanAt s (set spans n at)) 0 n)))
           ∙ last-so rs (accepted []) g m (end-here s at line l);
       lies = λ m k le.
           omega (arith, ap (λ (w : List ℕ). cell w k) st, set-lies spans n at (length s) (omega (arith, inv .kept)) (inv .high) (λ j lt. inv .lies m j (omega arith)) k le);

@@ -15,7 +15,7 @@ use Rattle.rules.specs.Types.{AttrSet}
 use Rattle.rules.specs.Listing.{headKinds, nodeOf, nodeFits, nodeInForm, Taking, takeNodes, within, forRoot, nodesAfter, takeRoot, takeRoots}
 use Rattle.rules.specs.Listing.{isAnswers, oldListing}
 use Rattle.text.specs.declared.Num.{Num}
-use Rattle.text.specs.Reads.{span, numOf}
+use Rattle.text.specs.Reads.{span, spanAt, numOf}
 use Rattle.old_listing.specs.declared.Old.{Old}
 use Rattle.old_listing.specs.declared.Old.the-variants.{InForm, Refused}
 use Rattle.old_listing.specs.declared.Reached.{Reached}
@@ -88,12 +88,8 @@ pub record RootsAt (rs : List Root) (table : List ℕ) (first n : ℕ) : Type 0 
 pub record RootWord (table : List ℕ) (first i k r : ℕ) : Type 0 where
   pub is : r ≡ cell table (cell table (first + i) + k)
 
--- the text of root i
-abbrev pub rootSpan : List ℕ → List ℕ → ℕ → List ℕ
-rootSpan s spans i = span s (cell spans i) (cell spans (i + 1))
-
 abbrev pub oldOf : Old → List ℕ → List ℕ → ℕ → Result (List (List ℕ))
-oldOf InForm s spans n = accepted (run (rootSpan s spans) 0 n)
+oldOf InForm s spans n = accepted (run (spanAt s spans) 0 n)
 oldOf (Refused k) s spans n = refused 11 k
 
 -- in form, the texts lie within s

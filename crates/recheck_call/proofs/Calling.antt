@@ -18,7 +18,7 @@ use Rattle.rules.specs.Table as rules
 use Rattle.rules.specs.Canonicalizer.{firstPass}
 use Rattle.rules.specs.Listing.{oldListing}
 use Rattle.rules.specs.Calls.{fits, comparable, recheckText, recheck, leaves, unlessShort, recheckCall}
-use Rattle.text.specs.Reads.{span}
+use Rattle.text.specs.Reads.{span, spanAt}
 use Rattle.table.specs.declared.Table.{Table}
 use Rattle.table.specs.declared.Answer.{Answer}
 use Rattle.table.specs.declared.Answer.the-variants.{Accepted, Refused as TableRefused}
@@ -29,7 +29,7 @@ use Rattle.prepare.proofs.Prepares.{same-table, many, read-kept}
 use Rattle.prepare.proofs.Facts.{roots-are}
 use Rattle.old_listing.specs.declared.Old.{Old}
 use Rattle.old_listing.specs.declared.Old.the-variants.{InForm, Refused as OldRefused}
-use Rattle.old_listing.specs.Olds.{RootsAt, asked, rootSpan, oldOf, Lies}
+use Rattle.old_listing.specs.Olds.{RootsAt, asked, oldOf, Lies}
 use Rattle.old_listing.specs.Olds.{Read as ReadOld}
 use Rattle.compare.specs.Compares.{Comparable}
 use Rattle.affected.specs.Reaches.{FlagsRedone}
@@ -72,9 +72,9 @@ flagged {listing} {out} {old} {table} {arena} {work} {table₁} {old₁} {work�
       let noted : Noted T₁ T₂ listing texts old₁ (g .roots) =
       record {
         lines = record {
-          are = run-ext (rootSpan listing old₁) (rootSpan listing old) 0 (g .roots)
+          are = run-ext (spanAt listing old₁) (spanAt listing old) 0 (g .roots)
               (λ k low lt. ap₂ {C = List ℕ} (span listing) (kept k (omega arith)) (kept (k + 1) (omega arith)))
-              ∙ ap (run (rootSpan listing old) 0) same
+              ∙ ap (run (spanAt listing old) 0) same
               ∙ lines .are;
           within = λ i lt. omega (arith, kept (i + 1) (omega arith), lines .within i (omega arith));
           short = lines .short;
@@ -194,11 +194,11 @@ module _ {listing out old table arena work : List ℕ} {u t : Table} {b : Bool} 
           } in
           let inside : (k : ℕ) → k ≤ n → cell old₁ k ≤ length listing =
           subst (λ (x : Old). Lies x listing old₁ n) e (q .lies (omega (arith, o .long))) in
-          let texts = run (rootSpan listing old₁) 0 n in
+          let texts = run (spanAt listing old₁) 0 n in
           let known = old-is f names-is first-is n-is q (o .long) l InForm e in
           let lines : OldLines listing texts old₁ (t .roots) =
           record {
-            are = ap (run (rootSpan listing old₁) 0) (sym same);
+            are = ap (run (spanAt listing old₁) 0) (sym same);
             within = λ i lt. inside (i + 1) (omega arith);
             short = listing-short (length (T₂ .names)) (T₂ .roots) listing texts known;
           } in

@@ -93,8 +93,7 @@ lengths-add t s row =
       names = length-append (t .names) (drop 1 row ∷ []) i;
       entries = length (t .entries);
       pairs = length (t .pairs);
-      marks = length
-          (t .marks);
+      marks = length (t .marks);
       roots = length (t .roots);
     })
     (map-if lengthsOf (eqb s 2) _ _ _ _
@@ -102,8 +101,7 @@ lengths-add t s row =
       names = length (t .names);
       entries = length-append (t .entries) (row ∷ []) i;
       pairs = length (t .pairs);
-      marks = length
-          (t .marks);
+      marks = length (t .marks);
       roots = length (t .roots);
     })
     (map-if lengthsOf (eqb s 3) _ _ _ _
@@ -111,8 +109,7 @@ lengths-add t s row =
       names = length (t .names);
       entries = length (t .entries);
       pairs = length-append (t .pairs) (drop 1 row ∷ []) i;
-      marks = length
-          (t .marks);
+      marks = length (t .marks);
       roots = length (t .roots);
     })
     (map-if lengthsOf (eqb s 4) _ _ _ _
@@ -120,8 +117,7 @@ lengths-add t s row =
       names = length (t .names);
       entries = length (t .entries);
       pairs = length (t .pairs);
-      marks = length-append (t .marks)
-          (drop 1 row ∷ []) i;
+      marks = length-append (t .marks) (drop 1 row ∷ []) i;
       roots = length (t .roots);
     })
     (λ i. record { names = length (t .names); entries = length (t .entries); pairs = length (t .pairs); marks = length (t .marks); roots = length-append (t .roots) (drop 1 row ∷ []) i })))))

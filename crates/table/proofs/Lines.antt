@@ -125,8 +125,7 @@ module _ {text w w′ : List ℕ} {from to : ℕ} {p : Progress} {r : Got} {t : 
               ∙ ap (λ (m : rules.Sections). admitted
               (record {
                 stage = rules.stageAfter (sectionOf (cell (span w′ (p .top) t) 0));
-                ids = p .ids + rowWeight (sectionOf (cell (span w′ (p .top) t) 0))
-                    (span w′ (p .top) t);
+                ids = p .ids + rowWeight (sectionOf (cell (span w′ (p .top) t) 0)) (span w′ (p .top) t);
                 table = m;
               }))
               (sym (grown p w′ t layout few-lines room (h .fine) (sectionOf (cell (span w′ (p .top) t) 0)) (how .0)))
@@ -169,8 +168,7 @@ start text w h = record {
     low = omega arith;
     few-lines = omega arith;
     unbegun = λ e. refl;
-    begun = λ e. absurd
-        (e refl);
+    begun = λ e. absurd (e refl);
     no-names = λ e. refl;
     no-entries = λ e. refl;
     no-pairs = λ e. refl;
@@ -180,10 +178,8 @@ start text w h = record {
   layout = record {
     ends = h .none-yet;
     order = λ i lt. omega arith;
-    behind = λ i le. let e : i
-        ≡ 0 = omega arith in let q = ap (beginAt w) e in omega (arith, h .none-yet);
-    within = λ i le. let e : i
-        ≡ 0 = omega arith in let q = ap (beginAt w) e in omega (arith, h .none-yet);
+    behind = λ i le. let e : i ≡ 0 = omega arith in let q = ap (beginAt w) e in omega (arith, h .none-yet);
+    within = λ i le. let e : i ≡ 0 = omega arith in let q = ap (beginAt w) e in omega (arith, h .none-yet);
   };
   low = omega arith;
   high = omega arith;
@@ -212,8 +208,7 @@ module _ {text w₀ w : List ℕ} {from : ℕ} {p : Progress} (inv : Walking tex
         record {
           few = inv .fine .few;
           order = λ i lt. inv .layout .order i (omega arith);
-          behind = λ i le. inv .layout .behind i
-              (omega arith);
+          behind = λ i le. inv .layout .behind i (omega arith);
           within = λ i le. omega (arith, inv .layout .within i (omega arith), inv .fine .low);
         };
     apart = inv .apart;

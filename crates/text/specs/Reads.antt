@@ -21,6 +21,10 @@ use mathlib.Core.Option.{Option, none, some}
 abbrev pub span : List ℕ → ℕ → ℕ → List ℕ
 span s a e = part s a (e - a)
 
+-- the cells between places i and i + 1
+abbrev pub spanAt : List ℕ → List ℕ → ℕ → List ℕ
+spanAt s places i = span s (cell places i) (cell places (i + 1))
+
 abbrev pub numOf : Num → Option ℕ
 numOf No = none
 numOf (Is v) = some v

@@ -445,9 +445,9 @@ inner-returns-3 t c =
     let at-note = at-own-bounds .before .before .before .before in
     let at-enum-told = at-note .before .before in
     let at-named-bound = at-enum-told .before .before in
-    inner-bounds (at-named-bound .named-bound .ensures) (search (at-enum-told .enum-told .given)) (at-note .note .ensures) (at-own-bounds .own-bounds
-    .ensures) (at-n .n .given .1) (at-own-bounds .own-bounds .kept .1 .1 .0) (at-none-begun .none-begun .ensures) (at-expand .expand .ensures)
-    (at-expanded .expanded .ensures)
+    inner-bounds (at-named-bound .named-bound .ensures) (search (at-enum-told .enum-told .given)) (at-note .note .ensures)
+    (at-own-bounds .own-bounds .ensures) (at-n .n .given .1) (at-own-bounds .own-bounds .kept .1 .1 .0) (at-none-begun .none-begun .ensures)
+    (at-expand .expand .ensures) (at-expanded .expanded .ensures)
 
 inter-again-requires : (t : ℕ) → inter-lts.Need-again-requires (inter-calls t) (inter-at t) inter.Post
 inter-again-requires t c κs =

@@ -19,8 +19,8 @@ loop-again c =
     let at-place = at-at .before .before in
     let at-loop-test = at-place .before .before in
     let at-loop = at-loop-test .before in
-    filling-more (at-loop .loop .inv) (at-loop-test .loop-test .taken) (at-place .place .ensures) (omega arith) (at-at .at .ensures) (at-put .put
-    .ensures)
+    filling-more (at-loop .loop .inv) (at-loop-test .loop-test .taken) (at-place .place .ensures) (omega arith) (at-at .at .ensures)
+    (at-put .put .ensures)
 
 pub copy-into-spec : {M : Type 1} → statement M
 copy-into-spec =

@@ -22,8 +22,7 @@ loop-again c =
     let at-loop-test = at-at .before .before in
     let at-loop = at-loop-test .before in (
       sifting-more (at-loop .loop .inv .0) (at-loop-test .loop-test .taken) (at-at .at .ensures) (record {
-        is = λ p h pre lt. ap not
-            (at-should-drop-filler .should-drop-filler .ensures .is pre .is h lt);
+        is = λ p h pre lt. ap not (at-should-drop-filler .should-drop-filler .ensures .is pre .is h lt);
       }) (c .before .keep-if .ensures),
       search needs,
     )

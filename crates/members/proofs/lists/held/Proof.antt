@@ -18,8 +18,8 @@ loop-again c =
     let at-place = at-get .before in
     let at-loop-test = at-place .before .before in
     let at-loop = at-loop-test .before in
-    filling-more (at-loop .loop .inv) (at-loop-test .loop-test .taken) (omega arith) (at-place .place .ensures) (at-get .get .ensures) (c .before .set
-    .ensures)
+    filling-more (at-loop .loop .inv) (at-loop-test .loop-test .taken) (omega arith) (at-place .place .ensures) (at-get .get .ensures)
+    (c .before .set .ensures)
 
 pub held-spec : {M : Type 1} → statement M
 held-spec =

@@ -94,9 +94,9 @@ negate-loop-again t c =
     let at-if3 = at-member .before .before in
     let at-count2 = at-if3 .before in
     let at-loop = at-count2 .before .before in
-    negating-more (at-loop .loop .inv) (at-count2 .count2 .ensures) (at-if3 .if3 .taken) (at-member .member .ensures) (at-if4 .if4 .left) (at-count3
-    .count3 .ensures) (at-add .add .ensures) (at-negate .negate .ensures) (at-y .y .given .1) (at-negate .negate .kept .0) (at-negate .negate .kept .1
-    .0) (at-place .place .ensures) (at-put .put .ensures)
+    negating-more (at-loop .loop .inv) (at-count2 .count2 .ensures) (at-if3 .if3 .taken) (at-member .member .ensures) (at-if4 .if4 .left)
+    (at-count3 .count3 .ensures) (at-add .add .ensures) (at-negate .negate .ensures) (at-y .y .given .1) (at-negate .negate .kept .0)
+    (at-negate .negate .kept .1 .0) (at-place .place .ensures) (at-put .put .ensures)
 
 negate-returns-4 : (t : ℕ) → negate-lts.Need-returns-4 (negate-calls t) (negate-at t) negate.Post negate-Inv-loop negate-μ-loop
 negate-returns-4 t c =
@@ -110,8 +110,8 @@ negate-returns-4 t c =
     let at-loop = at-count2 .before .before in
     let at-if1 = at-loop .before .before .before .before in
     let at-is = at-if1 .before in
-    negates-refused (at-loop .loop .inv) (at-count2 .count2 .ensures) (at-if3 .if3 .taken) (at-member .member .ensures) (at-if4 .if4 .left) (at-count3
-    .count3 .ensures) (at-add .add .ensures) (at-negate .negate .ensures) (at-is .is .ensures) (at-if1 .if1 .left) (c .before .k .given .1)
+    negates-refused (at-loop .loop .inv) (at-count2 .count2 .ensures) (at-if3 .if3 .taken) (at-member .member .ensures) (at-if4 .if4 .left)
+    (at-count3 .count3 .ensures) (at-add .add .ensures) (at-negate .negate .ensures) (at-is .is .ensures) (at-if1 .if1 .left) (c .before .k .given .1)
 
 negate-returns-5 : (t : ℕ) → negate-lts.Need-returns-5 (negate-calls t) (negate-at t) negate.Post negate-Inv-loop negate-μ-loop
 negate-returns-5 t c =
@@ -121,8 +121,8 @@ negate-returns-5 t c =
     let at-loop = at-count2 .before .before in
     let at-if1 = at-loop .before .before .before .before in
     let at-is = at-if1 .before in
-    negates-done (at-loop .loop .inv) (at-is .is .ensures) (at-if1 .if1 .left) (at-count2 .count2 .ensures) (at-if3 .if3 .left) (at-store-negation2
-    .store-negation2 .ensures)
+    negates-done (at-loop .loop .inv) (at-is .is .ensures) (at-if1 .if1 .left) (at-count2 .count2 .ensures) (at-if3 .if3 .left)
+    (at-store-negation2 .store-negation2 .ensures)
 
 pub +negate-spec : {M : Type 1} → statement M
 +negate-spec = close μ-negate λ t. negate-lts.spec (negate-calls t)

@@ -19,8 +19,8 @@ returns c =
     let at-simplify-one = at-why .before .before .before .before .before in
     let at-loop-test = at-simplify-one .before .before .before .before in
     let at-loop = at-loop-test .before in
-    simplifying-refused (at-loop .loop .inv .0) (at-loop-test .loop-test .taken) (at-simplify-one .simplify-one .ensures) (at-why .why .given .1) (c
-    .refused .ensures)
+    simplifying-refused (at-loop .loop .inv .0) (at-loop-test .loop-test .taken) (at-simplify-one .simplify-one .ensures) (at-why .why .given .1)
+    (c .refused .ensures)
 
 pub simplify-each-spec : {M : Type 1} → statement M
 simplify-each-spec =
