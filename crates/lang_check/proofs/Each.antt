@@ -25,7 +25,7 @@ use Rattle.laws.proofs.Filtering.{under-at}
 use Rattle.members.proofs.Negated.{bind-none, bind-more}
 use Rattle.storage.specs.declared.given.Canon.{Canon}
 use Rattle.storage.specs.Helds.{HeldList}
-use Rattle.lang_check.specs.Cycle.{Keyed, Poised, KeptBelow, Comes, Answers, visited, Visits, Each, Side}
+use Rattle.lang_check.specs.Cycle.{Keyed, Poised, KeptBelow, Arrives, Answers, visited, Visits, Each, Side}
 use Rattle.lang_check.proofs.Poised.{poised-firm, poised-mover, poised-entry, poised-moved, poised-place, keyed-cells, kept-none}
 use Rattle.cells.specs.Placed.{Under}
 
@@ -108,7 +108,7 @@ module _ {table : List ℕ} {c : Canon} {free : ℕ} {p : runs.Pass} {t : Reader
       ∙ ap (λ (o : Out ℕ). bind (bind o (λ y z. bind (each (λ (d : ℕ). visit free p t d pol) (drop (suc i) bs) z) (λ xs. give (y ∷ xs)))) (λ zs. give (part work h i ++ zs))) g
 
   amid-more : {b x k : ℕ} {w′ work′ work″ : List ℕ} {r : Pass} → i < n → b ≡ getD bs i 0
-      → Comes (λ (st : State). visit free p t b (sideOf i first pol) (mid .now) ≡ ok x st) (p .count) w′ work work′ (h + n) r → length work′ ≡ length work → k ≡ h + i → work″ ≡ set work′ k x
+      → Arrives (λ (st : State). visit free p t b (sideOf i first pol) (mid .now) ≡ ok x st) (p .count) w′ work work′ (h + n) r → length work′ ≡ length work → k ≡ h + i → work″ ≡ set work′ k x
       → Amid free p t st bs first pol work₀ h n w′ work″ r (suc i)
   amid-more {b} {x} {k} {w′} {work′} {work″} {r} lt e a long′ place put =
       let low = po .roomed .behind in

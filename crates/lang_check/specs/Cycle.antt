@@ -63,7 +63,7 @@ pub record KeptBelow (h : ℕ) (work work′ : List ℕ) : Type 0 where
   pub is : (k : ℕ) → heldAt ≤ k → k < h → cell work′ k ≡ cell work k
 
 -- the rules come to a state of which this is so, and the slices are as after that
-pub record Comes (Is : State → Type 0) (n : ℕ) (w work work′ : List ℕ) (h : ℕ) (q : Pass) : Type 0 where
+pub record Arrives (Is : State → Type 0) (n : ℕ) (w work work′ : List ℕ) (h : ℕ) (q : Pass) : Type 0 where
   pub after : State
   pub is : Is after
   pub stands : Stands after w q
@@ -71,7 +71,7 @@ pub record Comes (Is : State → Type 0) (n : ℕ) (w work work′ : List ℕ) (
   pub kept : KeptBelow h work work′
 
 abbrev pub AnswerBy : Out ℕ → ℕ → List ℕ → List ℕ → List ℕ → ℕ → Given → Type 0
-AnswerBy o n w work work′ h (Node x q) = Comes (λ (st : State). o ≡ ok x st) n w work work′ h q
+AnswerBy o n w work work′ h (Node x q) = Arrives (λ (st : State). o ≡ ok x st) n w work work′ h q
 AnswerBy o n w work work′ h (Refused k) = o ≡ no k
 
 -- the code's answer is that of the rules
@@ -97,8 +97,8 @@ pub record AnswersHeld (o : Out (List ℕ)) (n : ℕ) (w work work′ : List ℕ
 
 -- an expansion comes to a node, whatever its fallback is; or it leaves nothing, and its fallback goes on
 abbrev pub GatheredBy : (Run ℕ → Out ℕ) → ℕ → List ℕ → List ℕ → List ℕ → ℕ → Settled → Type 0
-GatheredBy f n w work work′ h (NodeS x q) = Comes (λ (st : State). (rest : Run ℕ) → f rest ≡ ok x st) n w work work′ h q
-GatheredBy f n w work work′ h (EmptyS y q) = Comes (λ (st : State). (rest : Run ℕ) → f rest ≡ rest st) n w work work′ h q
+GatheredBy f n w work work′ h (NodeS x q) = Arrives (λ (st : State). (rest : Run ℕ) → f rest ≡ ok x st) n w work work′ h q
+GatheredBy f n w work work′ h (EmptyS y q) = Arrives (λ (st : State). (rest : Run ℕ) → f rest ≡ rest st) n w work work′ h q
 GatheredBy f n w work work′ h (RefusedS k) = (rest : Run ℕ) → f rest ≡ no k
 
 pub record AnswersGathered (f : Run ℕ → Out ℕ) (n : ℕ) (w work work′ : List ℕ) (h : ℕ) (r : Settled) : Type 0 where

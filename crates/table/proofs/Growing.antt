@@ -172,6 +172,25 @@ module _ (p : Progress) (w : List ℕ) (to : ℕ) (l : Layout p w) (few : p .lin
         (1 + p .table .names + p .table .entries + p .table .pairs + (p .table .marks + 1)) (p .table .roots) zr))
     grown (suc (suc (suc (suc (suc n))))) h = late (suc (suc (suc (suc (suc n))))) (omega arith) (begun-in-order (p .stage) (suc (suc (suc (suc n)))) h .0)
 
+-- what is asked of the counts, part by part
+fine-of : {q : Progress} → Few (q .table) → q .ids ≤ mostIds → q .top ≤ tableLength → q .lines ≤ mostLines → (q .stage ≡ 0 → q .lines ≡ 0)
+    → ((q .stage ≡ 0 → ⊥) → q .lines ≡ 1 + q .table .names + q .table .entries + q .table .pairs + q .table .marks + q .table .roots)
+    → (q .stage ≤ 0 → q .table .names ≡ 0) → (q .stage ≤ 1 → q .table .entries ≡ 0) → (q .stage ≤ 2 → q .table .pairs ≡ 0)
+    → (q .stage ≤ 3 → q .table .marks ≡ 0) → (q .stage ≤ 4 → q .table .roots ≡ 0) → Fine q
+fine-of few ids low lines none some names entries pairs marks roots = record {
+  few = few;
+  few-ids = ids;
+  low = low;
+  few-lines = lines;
+  unbegun = none;
+  begun = some;
+  no-names = names;
+  no-entries = entries;
+  no-pairs = pairs;
+  no-marks = marks;
+  no-roots = roots;
+}
+
 -- the counts, with one row more
 module _ (p : Progress) (f : Fine p) (x to : ℕ) where
   late-counts : (sec : ℕ) → 5 ≤ sec → advanceBy p sec x to
@@ -194,19 +213,7 @@ module _ (p : Progress) (f : Fine p) (x to : ℕ) where
       let zp = f .no-pairs (omega arith) in
       let zm = f .no-marks (omega arith) in
       let zr = f .no-roots (omega arith) in
-      record {
-        few = few;
-        few-ids = ids;
-        low = low;
-        few-lines = omega arith;
-        unbegun = λ e. omega arith;
-        begun = λ e. omega arith;
-        no-names = λ e. omega arith;
-        no-entries = λ e. omega arith;
-        no-pairs = λ e. omega arith;
-        no-marks = λ e. omega arith;
-        no-roots = λ e. omega arith;
-      }
+      fine-of few ids low (omega arith) (λ e. omega arith) (λ e. omega arith) (λ e. omega arith) (λ e. omega arith) (λ e. omega arith) (λ e. omega arith) (λ e. omega arith)
   fine-grown (suc zero) h few ids low =
       let o = begun-in-order (p .stage) 0 h in
       let b = f .begun (o .0) in
@@ -215,19 +222,7 @@ module _ (p : Progress) (f : Fine p) (x to : ℕ) where
       let zp = f .no-pairs (omega arith) in
       let zm = f .no-marks (omega arith) in
       let zr = f .no-roots (omega arith) in
-      record {
-        few = few;
-        few-ids = ids;
-        low = low;
-        few-lines = omega arith;
-        unbegun = λ e. omega arith;
-        begun = λ e. omega arith;
-        no-names = λ e. omega arith;
-        no-entries = λ e. omega arith;
-        no-pairs = λ e. omega arith;
-        no-marks = λ e. omega arith;
-        no-roots = λ e. omega arith;
-      }
+      fine-of few ids low (omega arith) (λ e. omega arith) (λ e. omega arith) (λ e. omega arith) (λ e. omega arith) (λ e. omega arith) (λ e. omega arith) (λ e. omega arith)
   fine-grown (suc (suc zero)) h few ids low =
       let o = begun-in-order (p .stage) 1 h in
       let b = f .begun (o .0) in
@@ -235,56 +230,20 @@ module _ (p : Progress) (f : Fine p) (x to : ℕ) where
       let zp = f .no-pairs (omega arith) in
       let zm = f .no-marks (omega arith) in
       let zr = f .no-roots (omega arith) in
-      record {
-        few = few;
-        few-ids = ids;
-        low = low;
-        few-lines = omega arith;
-        unbegun = λ e. omega arith;
-        begun = λ e. omega arith;
-        no-names = λ e. omega arith;
-        no-entries = λ e. omega arith;
-        no-pairs = λ e. omega arith;
-        no-marks = λ e. omega arith;
-        no-roots = λ e. omega arith;
-      }
+      fine-of few ids low (omega arith) (λ e. omega arith) (λ e. omega arith) (λ e. omega arith) (λ e. omega arith) (λ e. omega arith) (λ e. omega arith) (λ e. omega arith)
   fine-grown (suc (suc (suc zero))) h few ids low =
       let o = begun-in-order (p .stage) 2 h in
       let b = f .begun (o .0) in
       let le = o .1 in
       let zm = f .no-marks (omega arith) in
       let zr = f .no-roots (omega arith) in
-      record {
-        few = few;
-        few-ids = ids;
-        low = low;
-        few-lines = omega arith;
-        unbegun = λ e. omega arith;
-        begun = λ e. omega arith;
-        no-names = λ e. omega arith;
-        no-entries = λ e. omega arith;
-        no-pairs = λ e. omega arith;
-        no-marks = λ e. omega arith;
-        no-roots = λ e. omega arith;
-      }
+      fine-of few ids low (omega arith) (λ e. omega arith) (λ e. omega arith) (λ e. omega arith) (λ e. omega arith) (λ e. omega arith) (λ e. omega arith) (λ e. omega arith)
   fine-grown (suc (suc (suc (suc zero)))) h few ids low =
       let o = begun-in-order (p .stage) 3 h in
       let b = f .begun (o .0) in
       let le = o .1 in
       let zr = f .no-roots (omega arith) in
-      record {
-        few = few;
-        few-ids = ids;
-        low = low;
-        few-lines = omega arith;
-        unbegun = λ e. omega arith;
-        begun = λ e. omega arith;
-        no-names = λ e. omega arith;
-        no-entries = λ e. omega arith;
-        no-pairs = λ e. omega arith;
-        no-marks = λ e. omega arith;
-        no-roots = λ e. omega arith;
-      }
+      fine-of few ids low (omega arith) (λ e. omega arith) (λ e. omega arith) (λ e. omega arith) (λ e. omega arith) (λ e. omega arith) (λ e. omega arith) (λ e. omega arith)
   fine-grown (suc (suc (suc (suc (suc n))))) h few ids low =
       let e = late-counts (suc (suc (suc (suc (suc n))))) (omega arith) in
       let o = begun-in-order (p .stage) (suc (suc (suc (suc n)))) h in
@@ -297,19 +256,7 @@ module _ (p : Progress) (f : Fine p) (x to : ℕ) where
         roots = p .table .roots + 1;
       }) = subst (λ (q : Progress). Few (q .table)) e few in
       subst Fine (sym e)
-      (record {
-        few = g;
-        few-ids = ids;
-        low = low;
-        few-lines = omega arith;
-        unbegun = λ e. omega arith;
-        begun = λ e. omega arith;
-        no-names = λ e. omega arith;
-        no-entries = λ e. omega arith;
-        no-pairs = λ e. omega arith;
-        no-marks = λ e. omega arith;
-        no-roots = λ e. omega arith;
-      })
+      (fine-of g ids low (omega arith) (λ e. omega arith) (λ e. omega arith) (λ e. omega arith) (λ e. omega arith) (λ e. omega arith) (λ e. omega arith) (λ e. omega arith))
 
 -- the places, with one row more
 module _ (p : Progress) (w : List ℕ) (to : ℕ) (l : Layout p w) (few : p .lines + 1 ≤ mostLines) (room : tableLength ≤ length w) (up : p .top ≤ to)
