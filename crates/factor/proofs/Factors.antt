@@ -45,7 +45,7 @@ use Rattle.members.proofs.Gathered.{Tried, Sifting, sifting-start, sifting-more
 use Rattle.members.proofs.Gathered.{searching-done, few-lists, few-at, few-below, gathered-none, gathered-few, gathered-list, taken-list, alone, listed, Searched}
 use Rattle.members.proofs.Gathered.{all-not, wraps-union, wraps-intersection, refuses}
 use Rattle.members.proofs.Flattened.{by-length}
-use Rattle.members.proofs.Negated.{arena-pass}
+use Rattle.lang_ty.proofs.Words.{arena-pass}
 use Rattle.members.proofs.Partway.{Loops, Partway, partway-start, partway-more, partway-no, partway-done}
 use Rattle.cells.specs.Placed.{Under}
 

@@ -22,7 +22,7 @@ use Rattle.lang_ty.specs.declared.arena.Given.the-variants.{Node, Refused}
 use Rattle.lang_ty.specs.Nodes.{Stands}
 use Rattle.members.specs.declared.lists.Flow.the-variants.{On, Refused as RefusedF}
 use Rattle.laws.proofs.Filtering.{under-at}
-use Rattle.members.proofs.Negated.{bind-none, bind-more}
+use Rattle.laws.proofs.Keeping.{bind-none, bind-more}
 use Rattle.storage.specs.declared.given.Canon.{Canon}
 use Rattle.storage.specs.Helds.{HeldList}
 use Rattle.lang_check.specs.Cycle.{Keyed, Poised, KeptBelow, Arrives, Answers, visited, Visits, Each, Side}

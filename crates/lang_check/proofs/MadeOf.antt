@@ -32,7 +32,7 @@ use Rattle.storage.specs.Vars.{IsVariable}
 use Rattle.storage.proofs.entries.Entry.{the-type}
 use Rattle.members.specs.declared.lists.Flow.{Flow}
 use Rattle.members.specs.declared.lists.Flow.the-variants.{On, Refused as RefusedF}
-use Rattle.members.specs.Negations.{membersUpTo, Negatable, AnswersGiven, NegatesOutput}
+use Rattle.negation.specs.Negations.{membersUpTo, Negatable, AnswersGiven, NegatesOutput}
 use Rattle.laws.proofs.Filtering.{under-at}
 use Rattle.composites.specs.declared.binary.Tried.{Tried}
 use Rattle.composites.specs.declared.binary.Tried.the-variants.{Node as NodeT, Contradiction as ContradictionT, Refused as RefusedT}
@@ -44,7 +44,7 @@ use Rattle.cells.specs.Placed.{Under}
 
 -- a step that stores and leaves the working slice
 stored-by : {o : Out ℕ} {w : List ℕ} (work : List ℕ) (h : ℕ) {r : Given} → Stores o w r → StoredBy o w work work h r
-stored-by work h {r = Node x q} a = let g = a .is in record { after = g .after; is = g .is; stands = g .stands; kept = λ k lt b d. refl }
+stored-by work h {r = Node x q} a = let g = a .is in record { after = g .after; is = g .is; stands = g .stands; kept = λ k lt b. refl }
 stored-by work h {r = Refused j} a = a .is
 
 -- a negation

@@ -174,8 +174,8 @@ answers-made seen k st (NodeG x q) behind rd keeps g =
         after = g .after;
         is = g .is;
         stands = g .stands;
-        keyed = keyed-cells (keyed-later (keeps (pt .value) (pt .between) x (g .after) (pt .second)) (po .keyed)) (λ j lt. g .kept j (omega arith) (λ z. omega arith) (λ z. omega arith));
-        kept = kept-both (rd .kept (pt .value) (pt .between) (pt .first)) (record { is = λ j lo hi. g .kept j hi (λ z. omega arith) (λ z. omega arith) });
+        keyed = keyed-cells (keyed-later (keeps (pt .value) (pt .between) x (g .after) (pt .second)) (po .keyed)) (λ j lt. g .kept j (omega arith) (λ z. omega arith));
+        kept = kept-both (rd .kept (pt .value) (pt .between) (pt .first)) (record { is = λ j lo hi. g .kept j hi (λ z. lo) });
       };
     }
 answers-made seen k st (Refused j) behind rd keeps g = record { is = g }

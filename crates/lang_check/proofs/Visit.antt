@@ -25,7 +25,7 @@ use Rattle.lang_ty.specs.declared.arena.Pass.{Pass}
 use Rattle.lang_ty.specs.declared.arena.Given.{Given}
 use Rattle.lang_ty.specs.declared.arena.Given.the-variants.{Node as NodeG, Refused}
 use Rattle.lang_ty.specs.Nodes.{Stands}
-use Rattle.members.proofs.Negated.{arena-pass}
+use Rattle.lang_ty.proofs.Words.{arena-pass}
 use Rattle.storage.specs.declared.given.Canon.{Canon}
 use Rattle.storage.specs.Passes.{Knows}
 use Rattle.storage.specs.Notes.{Slot, PassWith, Exceeds}

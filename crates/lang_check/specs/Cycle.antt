@@ -6,7 +6,7 @@ use mathlib.Core.List.{List, [], _∷_}
 use lib.ListN.{length, set as setAt}
 use lib.Dec.{eqb}
 use Rattle.cells.specs.Part.{if, cell}
-use Rattle.layout.specs.Layout.{bitsAt, countedCells, countedNodes, heldAt, workLength}
+use Rattle.layout.specs.Layout.{bitsAt, heldAt, workLength}
 use Rattle.rules.specs.Ceilings.{mostCells}
 use Rattle.rules.specs.Plain.{both}
 use Rattle.rules.specs.Table.{Entry, var, prim, tyvar, list, fn, set, neg, named, inter, union, frozen, kids, asSet}
@@ -30,6 +30,7 @@ use Rattle.storage.specs.Passes.{BoundsAt, Reads, Knows}
 use Rattle.storage.specs.Sets.{retyped}
 use Rattle.storage.specs.Entries.{ReadAs}
 use Rattle.storage.specs.Helds.{HeldList, Unseen, heldKids, firstPolarity}
+use Rattle.negation.specs.Negations.{KeptBut}
 use Rattle.members.specs.declared.lists.Flow.{Flow}
 use Rattle.members.specs.declared.lists.Flow.the-variants.{On, Refused as RefusedF}
 use Rattle.composites.specs.declared.lists.Settled.{Settled}
@@ -132,12 +133,12 @@ pub record Broad (work : List ℕ) (h : ℕ) : Type 0 where
   pub room : h + mostCells ≤ length work
   pub small : h + mostCells ≤ 4294967295
 
--- a step that stores: of the cells below h only a negation's counters changed
+-- a step that stores: of the cells below h only a negation's own changed
 pub record Stored (o : Out ℕ) (w work work′ : List ℕ) (h x : ℕ) (q : Pass) : Type 0 where
   pub after : State
   pub is : o ≡ ok x after
   pub stands : Stands after w q
-  pub kept : (k : ℕ) → k < h → (k ≡ countedNodes → ⊥) → (k ≡ countedCells → ⊥) → cell work′ k ≡ cell work k
+  pub kept : KeptBut h work work′
 
 abbrev pub StoredBy : Out ℕ → List ℕ → List ℕ → List ℕ → ℕ → Given → Type 0
 StoredBy o w work work′ h (Node x q) = Stored o w work work′ h x q

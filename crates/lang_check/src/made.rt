@@ -9,7 +9,7 @@ use lang_ty::arena::Given;
 use lang_ty::arena::OutputTy;
 use lang_ty::arena::Pass;
 use members::lists::Flow;
-use members::negate;
+use negation::negate_output_ty;
 use rules::Polarity;
 use storage::entries::Entry;
 use storage::given::Canon;
@@ -35,7 +35,7 @@ fn made_of_one(
         Entry::Primitive(p) => arena::store_one(arena, q, OutputTy::PRIMITIVE, p),
         Entry::TyVar(v) => variable(table, c, arena, q, v),
         Entry::List(_) => arena::store_one(arena, q, OutputTy::LIST, x),
-        Entry::Neg(_) => negate::negate_output_ty(arena, work, h, q, x),
+        Entry::Neg(_) => negate_output_ty(arena, work, h, q, x),
         Entry::Named(name, _) => arena::store_two(arena, q, OutputTy::NAMED, name, x),
         _ => Given::Refused(5),
     }

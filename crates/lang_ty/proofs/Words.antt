@@ -89,3 +89,19 @@ member-is {x = x} {i} {j} a b =
           let f : j ≡ suc (suc i) = a .is (omega (arith, row-few h x lt)) ∙ omega arith in
           word-of h b lt (omega arith) ∙ ap₂ (λ (l : List ℕ) (k : ℕ). getD l k 0) e f;
     }
+
+-- a pass of the same nodes and cells
+pub arena-pass : {w : List ℕ} {q p : Pass} {ns : List Node} → q .nodes ≡ p .nodes → q .cells ≡ p .cells → Arena w q ns → Arena w p ns
+arena-pass {w} e f a =
+    record {
+      count = a .count ∙ e;
+      few = omega (arith, a .few);
+      cells = omega (arith, a .cells);
+      first = a .first;
+      rows = a .rows;
+      ends = a .ends;
+      top = let g = ap (cell w) e in omega (arith, a .top);
+      below = a .below;
+      slim = a .slim;
+      room = a .room;
+    }

@@ -128,6 +128,15 @@ module _ {A B : Type 0} (m : Run A) (f : A → Run B) (st : State) (b : B) (st�
   pub parted : bind (m st) f ≡ ok b st′ → Parted m f st b st′
   parted e = parted-by (m st) refl e
 
+-- what is given after nothing more, and after more of a list
+pub bind-none : (o : Out (List ℕ)) → o ≡ bind o (λ zs. give zs)
+bind-none (ok zs st) = refl
+bind-none (no k) = refl
+
+pub bind-more : (ys l : List ℕ) (o : Out (List ℕ)) → bind (bind o (λ xs. give (l ++ xs))) (λ zs. give (ys ++ zs)) ≡ bind o (λ zs. give ((ys ++ l) ++ zs))
+bind-more ys l (ok xs st) = ap (λ (l : List ℕ). ok l st) (sym (append-assoc ys l xs))
+bind-more ys l (no k) = refl
+
 -- whatever it gives, the state is later
 abbrev pub Keeps : {A : Type 0} → Run A → Type 0
 Keeps {A} m = (st : State) (a : A) (st′ : State) → m st ≡ ok a st′ → Later st st′
@@ -223,7 +232,7 @@ unfolding factor-shared-from-intersection
 keeps-factor ms st = keeps-factor-unions (filter (λ (m : ℕ). not (is (st .nodes) unionKind m)) ms) (filter (is (st .nodes) unionKind) ms) st
 
 -- one after another
-keeps-each : (f : ℕ → Run ℕ) → ((m : ℕ) → Keeps (f m)) → (ms : List ℕ) → Keeps (each f ms)
+pub keeps-each : (f : ℕ → Run ℕ) → ((m : ℕ) → Keeps (f m)) → (ms : List ℕ) → Keeps (each f ms)
 keeps-each f k [] = keeps-give []
 keeps-each f k (m ∷ ms) = keeps-bind (f m) _ (k m) (λ x. keeps-bind (each f ms) _ (keeps-each f k ms) (λ xs. keeps-give (x ∷ xs)))
 
@@ -241,7 +250,7 @@ keeps-negate-node f k x (Neg a) = keeps-give a
 keeps-negate-node f k x Bottom = keeps-store (Neg x) tt
 keeps-negate-node f k x Top = keeps-store (Neg x) tt
 
-keeps-negate-by : (f x : ℕ) → Keeps (negateBy f x)
+pub keeps-negate-by : (f x : ℕ) → Keeps (negateBy f x)
 keeps-negate-by zero x st = keeps-give x st
 keeps-negate-by (suc f) x st = keeps-negate-node (negateBy f) (keeps-negate-by f) x (nodeAt (st .nodes) x) st
 

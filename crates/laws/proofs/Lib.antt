@@ -8,6 +8,7 @@ pub mod Containing
 pub mod Keeping
 pub mod Loading
 pub mod Rooting
+pub mod Negating
 pub mod Moving
 pub mod Caching
 pub mod Chaining

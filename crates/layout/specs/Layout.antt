@@ -29,7 +29,7 @@ arenaLength = 53249
 abbrev pub lineLength : ℕ
 lineLength = 65536
 
--- what a pass works with: keys from 0 on, polarity bits, ids seen, a negation's counters, lists held
+-- what a pass works with: keys from 0 on, polarity bits, ids seen, a negation's counters, what it remembers of each node, lists held
 abbrev pub bitsAt : ℕ
 bitsAt = 4096
 
@@ -42,8 +42,11 @@ countedNodes = 8192
 abbrev pub countedCells : ℕ
 countedCells = 8193
 
+abbrev pub negatedAt : ℕ
+negatedAt = 8194
+
 abbrev pub heldAt : ℕ
-heldAt = 8194
+heldAt = 12290
 
 -- a merge holds its fields in one of two areas after each other
 abbrev pub areaLength : ℕ

@@ -1,7 +1,7 @@
 // What lies where in the lent slices, and how long each of them is. Nothing else knows: a length that changes is changed here, and in
 // specs/Layout.antt, which has the same numbers for the contracts.
 ghost use mathlib.Core.Path.{_≡_};
-ghost use Rattle.layout.specs.Layout.{areaLength, headsAt, TableStated, PassStated, LinksStated, OthersStated, LengthsStated};
+ghost use Rattle.layout.specs.Layout.{areaLength, headsAt, negatedAt, TableStated, PassStated, LinksStated, OthersStated, LengthsStated};
 
 // A table that was read: for each entry its representative, whether it is marked, and whether the pass preserves it; then where each line's
 // row begins, and the rows. A row's beginning is a place of the slice.
@@ -30,7 +30,8 @@ impl ArenaSlice {
     pub const LINE: usize = 65536;
 }
 
-// What a pass works with: a key for each id and polarity, polarity bits, marks of ids seen, a negation's counters, and lists held on the way.
+// What a pass works with: a key for each id and polarity, polarity bits, marks of ids seen, a negation's counters, for each node what a negation
+// remembers of it, and lists held on the way.
 pub struct WorkSlice {}
 
 impl WorkSlice {
@@ -42,7 +43,9 @@ impl WorkSlice {
 
     pub const COUNTED_CELLS: u32 = 8193;
 
-    pub const HELD: u32 = 8194;
+    pub const NEGATED: u32 = 8194;
+
+    pub const HELD: u32 = 12290;
     // a merge holds its fields in one of two areas of this length, a key and a type each
     pub const AREA: u32 = 2048;
 
@@ -95,6 +98,7 @@ pub fn stated()
     ensures heads { λ _. do ⌜ (← ⟦LinkSlice::HEAD⟧ .entry) ≡ headsAt ⌝ }
     ensures links { λ _. do ⌜ LinksStated (← ⟦LinkSlice::NEXT⟧ .entry) (← ⟦LinkSlice::FROM⟧ .entry) (← ⟦LinkSlice::MARKS⟧ .entry) (← ⟦LinkSlice::QUEUE⟧ .entry) ⌝ }
     ensures others { λ _. do ⌜ OthersStated (← ⟦WorkSlice::COUNTED_NODES⟧ .entry) (← ⟦WorkSlice::COUNTED_CELLS⟧ .entry) (← ⟦SpanSlice::REDONE⟧ .entry) (← ⟦ArenaSlice::LINE⟧ .entry) ⌝ }
+    ensures negated { λ _. do ⌜ (← ⟦WorkSlice::NEGATED⟧ .entry) ≡ negatedAt ⌝ }
     ensures area { λ _. do ⌜ (← ⟦WorkSlice::AREA⟧ .entry) ≡ areaLength ⌝ }
     ensures lengths { λ _. do ⌜ LengthsStated (← ⟦TableSlice::LENGTH⟧ .entry) (← ⟦ArenaSlice::LENGTH⟧ .entry) (← ⟦WorkSlice::LENGTH⟧ .entry) (← ⟦DraftSlice::LENGTH⟧ .entry) ⌝ }
 {}

@@ -1,4 +1,3 @@
 pub mod Gathered
 pub mod Flattened
-pub mod Negated
 pub mod Partway

@@ -9,12 +9,11 @@ use lib.Seq.{drop-cons}
 use Rattle.rules.specs.Ceilings.{mostMembers}
 use Rattle.rules.specs.Types.{State, Out, ok, no, Run, bind, give}
 use Rattle.laws.proofs.Filtering.{under-both}
-use Rattle.laws.proofs.Keeping.{Later, later-none, later-both, later-under, Keeps}
+use Rattle.laws.proofs.Keeping.{bind-none, bind-more, Later, later-none, later-both, later-under, Keeps}
 use Rattle.lang_ty.specs.declared.arena.Pass.{Pass}
 use Rattle.lang_ty.specs.Nodes.{Stands}
 use Rattle.members.specs.Lists.{Gathered, Adds}
 use Rattle.members.proofs.Gathered.{gathered-none}
-use Rattle.members.proofs.Negated.{bind-none, bind-more}
 use Rattle.cells.specs.Placed.{Under}
 
 -- the rule each, by its step f

@@ -1,4 +1,3 @@
-// Lists of members by value, their nodes by number of the arena; flattening and negation, each under its name in collect.rs.
+// Lists of members by value, their nodes by number of the arena; flattening under its name in collect.rs.
 pub mod flatten;
 pub mod lists;
-pub mod negate;

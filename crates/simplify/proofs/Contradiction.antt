@@ -23,7 +23,7 @@ use Rattle.simplify.specs.declared.beside.MemberTest.the-variants.{Subsu
 use Rattle.members.proofs.Gathered.{few-at, few-below, all-not}
 use Rattle.simplify.proofs.Cancelled.{inners-any, no-inner, once}
 use Rattle.simplify.proofs.Redundant.{any-sift}
-use Rattle.members.proofs.Negated.{neg-at}
+use Rattle.lang_ty.proofs.Words.{neg-at}
 use Rattle.cells.specs.Placed.{Under}
 
 -- `is_negated_by` and `is_negated`

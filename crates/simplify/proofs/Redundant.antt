@@ -14,7 +14,7 @@ use Rattle.laws.proofs.Rows.{node-of, by-kind}
 use Rattle.lang_ty.specs.declared.arena.Pass.{Pass}
 use Rattle.lang_ty.specs.Nodes.{Arena, Word, Is}
 use Rattle.lang_ty.specs.Shapes.{Disjoint, Subtype}
-use Rattle.lang_ty.proofs.Words.{word-of}
+use Rattle.lang_ty.proofs.Words.{word-of, neg-at}
 use Rattle.members.specs.declared.lists.Members.{Members}
 use Rattle.members.specs.Lists.{Taken, Makes, Tests, Asks, Pairs, Beside, Sifts}
 use Rattle.simplify.specs.Asked.{overlap, redundant, sieve, anyMember, AnyPair}
@@ -22,7 +22,6 @@ use Rattle.simplify.specs.declared.beside.Sieve.the-variants.{Needed}
 use Rattle.simplify.specs.declared.beside.MemberTest.the-variants.{Concrete}
 use Rattle.simplify.proofs.Cancelled.{no-inner, once}
 use Rattle.members.proofs.Gathered.{all-not}
-use Rattle.members.proofs.Negated.{neg-at}
 use Rattle.cells.specs.Placed.{Under}
 
 -- of those that p keeps

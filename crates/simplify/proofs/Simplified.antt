@@ -12,7 +12,7 @@ use Rattle.rules.specs.Ceilings.{mostMembers}
 use Rattle.rules.specs.Plain.{any, filter, empty, both}
 use Rattle.rules.specs.Types.{Node, TyVar, Primitive, ListOf, Lambda, AttrSet, Union, Intersection, Named, Neg, Bottom, Top, State, Out, Run, bind, _>>=_, give, ask, kindOf, nodeAt, is}
 use Rattle.rules.specs.Members.{membersAt, innerOf, negatedInners, spared, sole, simplifyOne, simplifyEach, remove-redundant-negations, simplify-union-neg-intersection}
-use Rattle.laws.proofs.Keeping.{Later, later-node, later-under, keeps-if, keeps-give, keeps-union}
+use Rattle.laws.proofs.Keeping.{bind-none, Later, later-node, later-under, keeps-if, keeps-give, keeps-union}
 use Rattle.lang_ty.specs.declared.arena.Pass.{Pass}
 use Rattle.lang_ty.specs.Nodes.{Stands, Is, Count}
 use Rattle.members.specs.declared.lists.Members.{Members}
@@ -29,7 +29,6 @@ use Rattle.simplify.specs.Intersections.{Simplifies, SimplifiesInto, sim
 use Rattle.simplify.specs.declared.beside.Sieve.the-variants.{Spared}
 use Rattle.simplify.specs.declared.beside.MemberTest.the-variants.{Taken as TakenT}
 use Rattle.members.proofs.Gathered.{few-at, few-below, gathered-few, refuses, wraps-union}
-use Rattle.members.proofs.Negated.{bind-none}
 use Rattle.members.proofs.Partway.{Loops, Partway, partway-start, partway-more, partway-no, partway-done}
 use Rattle.cells.specs.Placed.{Under}
 

@@ -1,7 +1,7 @@
-use Rattle.members.proofs.Negated.{entered-node, entered-refused}
+use Rattle.negation.proofs.Turning.{entered-node, entered-refused}
 use borrow.Author.Needs.{needs}
-use Rattle.members.proofs.negate.stored.Statement.{statement}
-use Rattle.members.proofs.negate.stored.Tie as tie
+use Rattle.negation.proofs.stored.Statement.{statement}
+use Rattle.negation.proofs.stored.Tie as tie
 
 pub stored-spec : {M : Type 1} → statement M
 stored-spec =

@@ -1,8 +1,8 @@
 -- The store reads no marks of a pass, so one that is made of the two counters, with no marks, does as well.
-use Rattle.members.proofs.Negated.{negation-wraps, negation-turns}
+use Rattle.negation.proofs.Turning.{negation-wraps, negation-turns}
 use borrow.Author.Needs.{needs}
-use Rattle.members.proofs.negate.store_negation.Statement.{statement}
-use Rattle.members.proofs.negate.store_negation.Tie as tie
+use Rattle.negation.proofs.store_negation.Statement.{statement}
+use Rattle.negation.proofs.store_negation.Tie as tie
 
 pub store-negation-spec : {M : Type 1} → statement M
 store-negation-spec =

@@ -1,7 +1,7 @@
-use Rattle.members.proofs.Negated.{counting-is}
+use Rattle.negation.proofs.Turning.{counting-is}
 use borrow.Author.Needs.{needs}
-use Rattle.members.proofs.negate.count.Statement.{statement}
-use Rattle.members.proofs.negate.count.Tie as tie
+use Rattle.negation.proofs.count.Statement.{statement}
+use Rattle.negation.proofs.count.Tie as tie
 
 returns : tie.Need-returns
 returns c = search counting-is
