@@ -33,6 +33,7 @@ host recheck COUNT [SEED]   COUNT pairs of tables, and more damaged inputs
 host edges                  each refusal at its edge
 host stack                  the stack that the calls take on deep inputs
 host bench                  our time per root beside the Rust's, and recheck's
+host bench ladders          our time for ladders beside the Rust's, alone
 host bench recheck          recheck's alone
 ";
 
@@ -65,6 +66,7 @@ fn job(arguments: &[&str]) -> Option<Job> {
         ["edges"] => Some(Box::new(edges::run)),
         ["stack"] => Some(Box::new(stack::run)),
         ["bench"] => Some(Box::new(bench::run)),
+        ["bench", "ladders"] => Some(Box::new(bench::laddered)),
         ["bench", "recheck"] => Some(Box::new(bench::rechecked)),
         [name, count] => counted(name, count, "0"),
         [name, count, seed] => counted(name, count, seed),

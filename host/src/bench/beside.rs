@@ -5,15 +5,14 @@ use std::time::Duration;
 
 use oracle::{gen, listing, reader, RootAnswer, Table};
 
-use super::clock::{median, ratio, time, told};
+use super::clock::{median, ratio, time, told, RUNS};
 use super::parts::joined;
 use crate::calls::{Canon, OUTPUT};
 use crate::report::rows::{print_heads, print_row};
 
 const SIZES: [usize; 3] = [50, 500, 2_000];
-/// Tables of each profile and size, and runs of each table.
+/// Tables of each profile and size.
 const TABLES: u64 = 3;
-const RUNS: usize = 15;
 
 /// Medians of one table.
 struct Times {
@@ -112,9 +111,7 @@ fn measure(canon: &mut Canon, table: &Table) -> Option<Times> {
             let _ = black_box(canon.bare(black_box(&text), &mut out));
         }));
         whole.push(time(|| {
-            let read = reader::read(black_box(&text)).ok();
-            let answers = read.and_then(|table| timed::answers(&table));
-            let _ = black_box(answers.map(|answers| listing::write(&answers)));
+            let _ = black_box(rust_listing(black_box(&text)));
         }));
         run.push(time(|| {
             let _ = black_box(timed::answers(black_box(table)));
@@ -126,4 +123,11 @@ fn measure(canon: &mut Canon, table: &Table) -> Option<Times> {
         whole: median(whole),
         run: median(run),
     })
+}
+
+/// The Rust, from text to listing.
+pub fn rust_listing(text: &[u8]) -> Option<Vec<u8>> {
+    let table = reader::read(text).ok()?;
+    let answers = timed::answers(&table)?;
+    Some(listing::write(&answers))
 }

@@ -2,6 +2,9 @@
 
 use std::time::Duration;
 
+/// A median is of so many runs.
+pub const RUNS: usize = 15;
+
 pub fn told(time: Duration) -> String {
     format!("{:.1} µs", time.as_secs_f64() * 1e6)
 }

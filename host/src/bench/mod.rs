@@ -1,8 +1,9 @@
-//! Our time per root beside the Rust's on the same tables; recheck's beside
-//! canon's.
+//! Our time per root beside the Rust's on the same tables, and on ladders;
+//! recheck's beside canon's.
 
 mod beside;
 mod clock;
+mod ladders;
 mod parts;
 mod processes;
 mod touched;
@@ -12,7 +13,15 @@ use crate::report::Tally;
 pub fn run() -> Tally {
     beside::run();
     println!();
+    ladders::run();
+    println!();
     rechecked()
+}
+
+/// The part of ladders alone.
+pub fn laddered() -> Tally {
+    ladders::run();
+    Tally::default()
 }
 
 /// recheck's part alone.

@@ -7,7 +7,7 @@ use std::time::Duration;
 use oracle::table::Entry;
 use oracle::{gen, reader, Table};
 
-use super::clock::{median, ratio, time, told};
+use super::clock::{median, ratio, time, told, RUNS};
 use super::parts::joined;
 use crate::calls::{Canon, Input, Recheck, OUTPUT};
 use crate::input::draft::Draft;
@@ -15,7 +15,6 @@ use crate::recheck::model;
 use crate::report::rows::{print_heads, print_row};
 
 const TOUCHED: [usize; 5] = [0, 1, 8, 32, 64];
-const RUNS: usize = 15;
 
 pub fn run() {
     println!("Processor time of a call, medians of {RUNS} runs, with 64 roots:");

@@ -100,6 +100,15 @@ impl Draft {
         self.lambda(level[0], level[0])
     }
 
+    /// Levels of a ladder: each is the union of two intersections, of the union
+    /// below with either side. The topmost union.
+    pub fn levels(&mut self, below: u32, sides: [u32; 2], count: u32) -> u32 {
+        (0..count).fold(below, |below, _| {
+            let [a, b] = sides.map(|side| self.inter(below, side));
+            self.union(a, b)
+        })
+    }
+
     /// For each k from 2 on a union of the first k of these entries, and its
     /// negation; the ids of the negations.
     pub fn negated_unions(&mut self, members: &[u32]) -> Vec<u32> {

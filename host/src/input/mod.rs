@@ -4,4 +4,5 @@ pub mod changes;
 pub mod draft;
 pub mod edits;
 pub mod join;
+pub mod ladders;
 pub mod large;
