@@ -1,6 +1,7 @@
 //! Tables that nest deeply.
 
 use crate::input::draft::Draft;
+use crate::input::ladders::ladder;
 use crate::input::large;
 
 pub struct Deep {
@@ -22,6 +23,7 @@ pub fn inputs() -> Vec<Deep> {
         deep("47 fallbacks", fallbacks()),
         deep("47 retries", retries()),
         deep("unions and intersections, 1,960 deep, negated", negated()),
+        deep("a ladder of 46 levels, negated", ladder(46)),
         deep("2,000 lists, walked from the top", walked()),
         deep("two members of 950 lists, sorted", sorted()),
         deep("a preserved chain 1,920 deep, negated", preserved(640)),
