@@ -17,16 +17,15 @@ pub fn confirm(edge: &Edge) -> Result<(), String> {
         return same(theirs, Some(refused(number, line)));
     }
     let table = read.map_err(|r| format!("the second reader: {r:?}"))?;
+    if let Expect::Unasked(_) = edge.expect {
+        return Ok(());
+    }
     let Ok(theirs) = oracle::answers_of(&table) else {
         return Ok(());
     };
     match &edge.expect {
-        Expect::Refused(..) => Ok(()),
-        Expect::Listing(listing) if has_refusal(listing) => Ok(()),
-        Expect::Listing(listing) => match oracle::listing::write(&theirs) == *listing {
-            true => Ok(()),
-            false => Err("the Rust's listing is another".to_string()),
-        },
+        Expect::Refused(..) | Expect::Unasked(_) => Ok(()),
+        Expect::Listing(listing) => confirm_listing(listing, &theirs),
         Expect::Roots(heads) => {
             for (head, root) in heads.iter().zip(&theirs) {
                 confirm_root(head, root)?;
@@ -36,20 +35,27 @@ pub fn confirm(edge: &Edge) -> Result<(), String> {
     }
 }
 
-/// Of a root, which the Rust never refuses.
-fn has_refusal(listing: &[u8]) -> bool {
+/// Root by root, since the Rust refuses none.
+fn confirm_listing(listing: &[u8], theirs: &[RootAnswer]) -> Result<(), String> {
     let blocks = lines::blocks(listing);
-    let mut numbers = blocks.into_iter().filter_map(lines::root_refusal);
-    numbers.next().is_some()
+    for (block, root) in blocks.iter().zip(theirs) {
+        match lines::root_refusal(block) {
+            Some(number) => passes(root.measures, number)?,
+            None if lines::of_rust(root) == *block => {}
+            None => return Err("the Rust's listing is another".to_string()),
+        }
+    }
+    let first = lines::first_line(theirs.len());
+    same(
+        (blocks.len(), listing.starts_with(first.as_bytes())),
+        (theirs.len(), true),
+    )
 }
 
 fn confirm_root(head: &str, root: &RootAnswer) -> Result<(), String> {
     let sizes = root.measures;
     if let Some(number) = lines::root_refusal(head.as_bytes()) {
-        return match passes(sizes, number) {
-            true => Ok(()),
-            false => Err(format!("the Rust's sizes are {sizes:?}")),
-        };
+        return passes(sizes, number);
     }
     if !matches!(root.answer, Answer::Shown(_)) {
         return Err("the Rust does not return".to_string());
@@ -63,11 +69,15 @@ fn confirm_root(head: &str, root: &RootAnswer) -> Result<(), String> {
 }
 
 /// Whether the Rust's sizes pass the limit of a number, and none before it.
-fn passes(sizes: Measures, number: u32) -> bool {
-    match number {
+fn passes(sizes: Measures, number: u32) -> Result<(), String> {
+    let passes = match number {
         6 => sizes.keys > KEYS,
         7 => sizes.list > MEMBERS && sizes.keys <= KEYS,
         8 => sizes.nodes > NODES && lists_within(sizes),
         _ => sizes.cells > CELLS && lists_within(sizes),
+    };
+    match passes {
+        true => Ok(()),
+        false => Err(format!("the Rust's sizes are {sizes:?}")),
     }
 }

@@ -5,9 +5,11 @@
 mod ceilings;
 mod check;
 mod confirm;
+mod drawn;
 mod edge;
 mod form;
 mod keys;
+mod ladders;
 mod members;
 mod nodes;
 mod orders;
@@ -26,7 +28,7 @@ use confirm::confirm;
 use edge::{Edge, Edges, Expect};
 
 /// The edges of canon, by their subject.
-const SUBJECTS: [fn(&mut Edges); 15] = [
+const SUBJECTS: [fn(&mut Edges); 17] = [
     ceilings::text_length,
     ceilings::ceilings,
     form::form,
@@ -41,6 +43,8 @@ const SUBJECTS: [fn(&mut Edges); 15] = [
     nodes::cells,
     nodes::orders_of_limits,
     nodes::after_a_large_root,
+    ladders::ladders,
+    drawn::drawn,
     outputs::outputs,
 ];
 
@@ -70,7 +74,7 @@ fn try_edge(canon: &mut Canon, edge: &Edge) -> Result<(), String> {
     let outcome = canon.canon(&edge.text, &mut out);
     match &edge.expect {
         Expect::Refused(number, line) => refused_with(outcome, *number, *line),
-        Expect::Listing(listing) => writes(outcome, &out, listing),
+        Expect::Listing(listing) | Expect::Unasked(listing) => writes(outcome, &out, listing),
         Expect::Roots(heads) => {
             let length = outcome?.map_err(told)?;
             let blocks = lines::blocks(&out[..length]);

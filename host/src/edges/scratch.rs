@@ -3,9 +3,11 @@
 use oracle::rng::Rng;
 
 use super::check::{refused_with, writes};
+use super::ladders;
 use super::texts::{k1, K1_LISTING};
 use crate::calls::{Canon, OUTPUT};
 use crate::input::draft::{tabs, Draft};
+use crate::input::ladders::ladder;
 use crate::report::Tally;
 
 /// Scratch that comes in with other numbers than zero is none of the answer's.
@@ -22,6 +24,7 @@ pub fn soiled(canon: &mut Canon, tally: &mut Tally) {
     for (name, text, listing) in [
         ("K1", k1(), K1_LISTING),
         ("17 bounds", draft.text(), listing),
+        ("46 levels", ladder(46), &ladders::listing(46)),
     ] {
         for all in [false, true] {
             let mut out = vec![0xa5; OUTPUT];

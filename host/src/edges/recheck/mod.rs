@@ -2,6 +2,7 @@
 //! against the model of recheck too.
 
 mod edge;
+mod ladders;
 mod lengths;
 mod listing;
 mod tables;
@@ -21,6 +22,7 @@ pub fn run(tally: &mut Tally) {
     listing::numbers_of_nodes(&mut edges);
     tables::differing_lines(&mut edges);
     tables::orders(&mut edges);
+    ladders::ladders(&mut edges);
     lengths::listings(&mut edges);
     lengths::short_scratch(&mut edges);
 }
