@@ -50,6 +50,24 @@ pub fn root_refusal(block: &[u8]) -> Option<u32> {
     }
 }
 
+/// A block is an answer to this root: its line and as many nodes as that tells,
+/// each over nodes before it, or its refusal by a limit.
+pub fn is_answer(block: &[u8], root: Root) -> bool {
+    let lines = block.iter().filter(|&&b| b == b'\n').count();
+    let head = head(block);
+    let well = match head[..] {
+        ["refused", _, _, "6" | "7" | "8" | "9"] => lines == 1,
+        ["root", _, _, "1" | "2", operations, "0" | "1", "0" | "1", nodes] => {
+            let nodes = nodes.parse::<usize>();
+            operations.parse::<u32>().is_ok()
+                && nodes.is_ok_and(|nodes| nodes + 1 == lines)
+                && type_of(block, &mut HashMap::new()).is_some()
+        }
+        _ => false,
+    };
+    well && block.ends_with(b"\n") && head[1..3] == [root.id.to_string(), root.sign().to_string()]
+}
+
 /// The types of two blocks are the same but for the order of members, and the
 /// first lines are the same but for the node count.
 pub fn same_but_order(ours: &[u8], theirs: &[u8]) -> bool {
@@ -68,8 +86,8 @@ fn type_of(block: &[u8], types: &mut HashMap<String, usize>) -> Option<usize> {
     let text = std::str::from_utf8(block).ok()?;
     let mut numbers: Vec<usize> = Vec::new();
     for line in text.lines().skip(1) {
-        let (_, node) = line.split_once('\t')?;
-        let node = with_types(node, &numbers)?;
+        let (number, node) = line.split_once('\t')?;
+        let node = with_types(node, &numbers).filter(|_| number == numbers.len().to_string())?;
         let next = types.len();
         numbers.push(*types.entry(node).or_insert(next));
     }

@@ -14,7 +14,8 @@ pub enum Verdict {
     SortedSame,
     SortedOrder,
     SortedElse,
-    /// The Rust would not return, or nobody would wait for it.
+    /// The Rust would not return, or nobody would wait for it; ours is an
+    /// answer.
     Endless,
     TooLong,
     /// Refused here where the Rust's sizes pass the limit.
@@ -40,27 +41,30 @@ pub const VERDICTS: [(Verdict, &str); 11] = [
 ];
 
 pub fn judge(block: &[u8], root: &RootAnswer) -> Verdict {
-    if let Some(number) = lines::root_refusal(block) {
-        return judge_limit(number, block, root);
+    match (&root.answer, lines::root_refusal(block)) {
+        // The Rust's run was cut short, and no limit can be judged by its sizes.
+        (Answer::TooLong, _) if lines::is_answer(block, root.root) => Verdict::TooLong,
+        (Answer::TooLong, _) => Verdict::Differs,
+        (_, Some(number)) => judge_limit(number, block, root),
+        (Answer::Endless, None) => Verdict::Endless,
+        (Answer::Shown(shown), None) => judge_shown(shown.sorted, block, root),
     }
-    // The Rust may store a Bottom that is none of the rules' nodes.
-    let within = limits::within(root.measures, limits::NODES + 1, limits::CELLS);
-    match &root.answer {
-        Answer::Endless => Verdict::Endless,
-        Answer::TooLong => Verdict::TooLong,
-        // What passes a limit must be refused here.
-        Answer::Shown(_) if !within => Verdict::Differs,
-        Answer::Shown(shown) => {
-            let theirs = lines::of_rust(root);
-            match (block == theirs, shown.sorted) {
-                (true, false) => Verdict::Same,
-                (false, false) => Verdict::Differs,
-                (true, true) => Verdict::SortedSame,
-                (false, true) if lines::head(block).get(5) != Some(&"1") => Verdict::Differs,
-                (false, true) if lines::same_but_order(block, &theirs) => Verdict::SortedOrder,
-                (false, true) => Verdict::SortedElse,
-            }
-        }
+}
+
+fn judge_shown(sorted: bool, block: &[u8], root: &RootAnswer) -> Verdict {
+    // What passes a limit must be refused here. The Rust may store a Bottom
+    // that is none of the rules' nodes.
+    if !limits::within(root.measures, limits::NODES + 1, limits::CELLS) {
+        return Verdict::Differs;
+    }
+    let theirs = lines::of_rust(root);
+    match (block == theirs, sorted) {
+        (true, false) => Verdict::Same,
+        (false, false) => Verdict::Differs,
+        (true, true) => Verdict::SortedSame,
+        (false, true) if lines::head(block).get(5) != Some(&"1") => Verdict::Differs,
+        (false, true) if lines::same_but_order(block, &theirs) => Verdict::SortedOrder,
+        (false, true) => Verdict::SortedElse,
     }
 }
 
