@@ -17,7 +17,7 @@ pub fn drawn(edges: &mut Edges) {
     let tables = (0..).filter_map(|seed| Some((seed, answered(table(seed))?)));
     for (seed, (text, listing)) in tables.take(TABLES) {
         let name = format!("drawn table {seed}");
-        edges.add(&name, text, ROOM, Expect::Listing(listing));
+        edges.add(&name, text, ROOM, Expect::Unasked(listing));
     }
 }
 
@@ -38,7 +38,7 @@ fn table(seed: u64) -> Vec<u8> {
     let mut draft = Draft::with_names(6);
     let leaves = leaves(&mut draft);
     let (mut before, mut row) = (leaves.clone(), leaves.clone());
-    for number in 0..rng.range(5, 16) {
+    for number in 0..rng.range(4, 12) {
         let next: Vec<u32> = (0..3)
             .map(|_| {
                 let a = rng.pick(&row);

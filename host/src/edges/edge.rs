@@ -11,7 +11,7 @@ pub enum Expect {
     Refused(u32, u32),
     /// The whole listing.
     Listing(Vec<u8>),
-    /// The same, where the Rust takes too long to be asked.
+    /// The same, where the Rust takes too long to be asked, or was asked.
     Unasked(Vec<u8>),
     /// The first line of each root.
     Roots(Vec<String>),

@@ -1,7 +1,6 @@
 //! Negated ladders at the limits of a run.
 
 use super::nodes::root;
-use super::MOST;
 use crate::calls::OUTPUT;
 use crate::edges::edge::{Edges, Expect};
 use crate::input::draft::{tabs, Draft};
@@ -17,15 +16,25 @@ pub fn limits(edges: &mut Edges) {
     numbers(edges);
 }
 
-/// Refusal 6, before anything is negated: 98 keys, and 97.
+/// Refusal 6 comes before anything is negated. A list around a ladder takes as
+/// many keys as its negation, and there the Rust returns.
 fn keys(edges: &mut Edges) {
-    edges.root("a ladder of 47 levels", ladder(47), "refused>145>+>6");
+    let listed = |levels: u32| {
+        let mut draft = begun(2);
+        let top = draft.levels(LOWEST, SIDES, levels);
+        let list = draft.list(top);
+        draft.rooted(list)
+    };
+    edges.root("46 levels, 96 keys", listed(46), "root>142>+>1>282>0>0>143");
+    edges.root("47 levels, 98 keys", listed(47), "refused>145>+>6");
+    let refused = Expect::Unasked(tabs("answers>1\nrefused>145>+>6\n"));
+    edges.add("a ladder of 47 levels", ladder(47), OUTPUT, refused);
     let mut draft = begun(2);
-    let top = draft.levels(LOWEST, SIDES, MOST);
+    let top = draft.levels(LOWEST, SIDES, 46);
     let neg = draft.neg(top);
     let list = draft.list(neg);
-    let listing = Expect::Unasked(tabs("answers>1\nrefused>143>+>6\n"));
-    edges.add("46 levels in a list", draft.rooted(list), OUTPUT, listing);
+    let refused = Expect::Unasked(tabs("answers>1\nrefused>143>+>6\n"));
+    edges.add("a ladder in a list", draft.rooted(list), OUTPUT, refused);
 }
 
 /// A root that is refused within a negation leaves nothing to the next one.
@@ -37,14 +46,10 @@ fn within(edges: &mut Edges, number: u32, more: fn(&mut Draft) -> Vec<u32>) {
     let first = draft.lambda(top, 0);
     let fields = [vec![first], more(&mut draft), vec![neg]].concat();
     let set = draft.set(&fields, &[]);
-    let mut listing = String::from("answers>4\n");
-    for id in [set, neg, set, neg] {
-        draft.root(id);
-        listing.push_str(&match id == neg {
-            true => root(neg, LEVELS),
-            false => format!("refused>{set}>+>{number}\n"),
-        });
-    }
+    draft.root(set);
+    draft.root(neg);
+    let refused = format!("refused>{set}>+>{number}\n");
+    let listing = format!("answers>2\n{refused}{}", root(neg, LEVELS));
     let name = format!("{number} within a negation");
     let listing = Expect::Listing(tabs(&listing));
     edges.add(&name, draft.text(), OUTPUT, listing);
@@ -69,7 +74,7 @@ fn more_cells(draft: &mut Draft) -> Vec<u32> {
 /// A negation of nodes that were stored long before it and of the last ones,
 /// in the second of two passes.
 fn numbers(edges: &mut Edges) {
-    let table = |leaves: u32, levels: [u32; 2], lists: u32| {
+    let table = |leaves: u32, levels: [u32; 2]| {
         let mut draft = begun(3);
         let upper = draft.prim(1);
         let tree = draft.tree(leaves, 0, upper);
@@ -77,19 +82,16 @@ fn numbers(edges: &mut Edges) {
         let high = draft.levels(low, SIDES, levels[1]);
         let negs = [draft.neg(low), draft.neg(high)];
         let set = draft.set(&[negs[0], tree, negs[1]], &[]);
-        let top = draft.lists(set, lists).last().copied();
-        draft.rooted(top.unwrap_or(set))
+        draft.rooted(set)
     };
     // Stored: 43 of the low ladder and its negation, 2,020 of the tree, 36 of
     // the high one, which begin at node 2,063, and the set. All but 37 unions
     // and intersections are shown. Operations of a pass: 1, 42, the tree's
     // 2,423, and 38.
     let head = "root>851>+>2>5008>0>0>2063";
-    edges.root("a ladder over one far below", table(404, [6, 6], 0), head);
+    edges.root("a ladder over one far below", table(404, [6, 6]), head);
     // Stored: 43, 4,010, 42, and the set; 40 are not shown. Operations of a
     // pass: 1, 42, 4,811 and 44.
     let head = "root>1650>+>2>9796>0>0>4056";
-    edges.root("negated, 4,096 nodes", table(802, [6, 7], 0), head);
-    let head = "refused>1651>+>8";
-    edges.root("negated, 4,097 nodes", table(802, [6, 7], 1), head);
+    edges.root("negated, 4,096 nodes", table(802, [6, 7]), head);
 }
