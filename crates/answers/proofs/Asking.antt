@@ -136,19 +136,15 @@ module _ {listing old table arena work o table′ o′ : List ℕ} {g : Prepared
       })
 
 -- each way out of `deliver`: the text was written into the draft
-module _ {listing out draft old table arena work work₁ draft₂ table₂ : List ℕ} {g : Prepared} {asked : Asked} {size : ℕ}
-    (lw : length work₁ ≡ length work) (w : WritesAsked listing old table g arena work₁ asked draft table₂ draft₂ size) where
+module _ {listing out draft old table arena work draft₂ table₂ : List ℕ} {g : Prepared} {asked : Asked} {size : ℕ}
+    (w : WritesAsked listing old table g arena work asked draft table₂ draft₂ size) where
   pub deliver-none : length out < size → Delivers listing out old table g arena work asked out (Refused 12 0)
-  deliver-none h = record { is = λ t u k. too-long t out (w .is t (running-on u refl refl lw) k .size) h }
+  deliver-none h = record { is = λ t u k. too-long t out (w .is t u k .size) h }
 
-  pub deliver-anew : {arena₂ work₂ table₃ out′ : List ℕ} {r : ℕ} → length arena₂ ≡ length arena → length work₂ ≡ length work₁ → size ≤ length out
+  pub deliver-anew : {arena₂ work₂ table₃ out′ : List ℕ} {r : ℕ} → length arena₂ ≡ length arena → length work₂ ≡ length work → size ≤ length out
       → WritesAsked listing old table₂ g arena₂ work₂ asked out table₃ out′ r → Delivers listing out old table g arena work asked out′ (Written size)
-  deliver-anew la lw₂ h a = record {
-    is = λ t u k.
-        let v = running-on u refl refl lw in
-        written-anew t out (w .is t v k .size) h (a .is t (running-on v (w .kept t v k) la lw₂) k);
-  }
+  deliver-anew la lw h a = record { is = λ t u k. written-anew t out (w .is t u k .size) h (a .is t (running-on u (w .kept t u k) la lw) k) }
 
   pub deliver-copy : {out′ : List ℕ} → length draft₂ ≡ length draft → size ≤ length out → size ≤ length draft₂ → Copies out draft₂ size out′
       → Delivers listing out old table g arena work asked out′ (Written size)
-  deliver-copy ld h d c = record { is = λ t u k. copied-out t out (w .is t (running-on u refl refl lw) k) h d ld c }
+  deliver-copy ld h d c = record { is = λ t u k. copied-out t out (w .is t u k) h d ld c }

@@ -1,8 +1,6 @@
 // What is asked of a table that was accepted, as text, and the text brought to the output if it fits.
 use crate::mixed;
 use crate::roots;
-use cells::clear;
-use layout::WorkSlice;
 use outcomes::Outcome;
 use prepare::Prepared;
 ghost use Rattle.answers.specs.Asks.{WritesAsked, Delivers};
@@ -40,7 +38,7 @@ fn write_asked(
 }
 
 // What is asked, made in the draft, and copied if it fits the output. A text longer than the draft is written once more, straight into the
-// output. Ids seen and a negation's counters are zero before the first run.
+// output.
 pub fn deliver(
     listing: &[u8],
     out: &mut [u8],
@@ -55,7 +53,6 @@ pub fn deliver(
     ensures { λ r. ⌜ Delivers (now (listing .entry)) (now (out .entry)) (now (old .entry)) (now (table .entry)) g (now (arena .entry)) (now (work .entry))
         asked (now (out .exit)) r ⌝ }
 {
-    clear(work, WorkSlice::SEEN, WorkSlice::HELD - WorkSlice::SEEN);
     let size = write_asked(listing, draft, old, table, g, arena, work, asked);
     let len = size as usize;
     if out.len() < len {

@@ -10,13 +10,10 @@ returns c = search deliver-none
 returns-2 : tie.Need-returns-2
 returns-2 c =
     let mid = c .before .before .before .before .before .before .before .before .before .before .before .before .before .before in
-    let low = mid .before .before .before .before .before .before .before .before .before .before .before .before .before .before in
-    let clear = low .before .before .clear in
     let write-asked = mid .before .before .before .before .before .before .before .before .before .write-asked in
     let if1 = mid .if1 in
     let write-asked2 = c .before .before .before .before .before .before .before .before .write-asked2 in
-    deliver-anew (clear .kept .0) (write-asked .ensures) (write-asked .kept .1 .1 .1 .1 .1 .0) (write-asked .kept .1 .1 .1 .1 .1 .1 .0) (if1 .left)
-    (write-asked2 .ensures)
+    deliver-anew (write-asked .ensures) (write-asked .kept .1 .1 .1 .1 .1 .0) (write-asked .kept .1 .1 .1 .1 .1 .1 .0) (if1 .left) (write-asked2 .ensures)
 
 returns-3 : tie.Need-returns-3
 returns-3 c = search deliver-copy
@@ -25,8 +22,6 @@ pub deliver-spec : {M : Type 1} → statement M
 deliver-spec =
     tie.close
     (tie.spec
-    (λ c. search needs)
-    (λ c _. search needs)
     (λ c _. search needs)
     (λ c. search needs)
     (λ c. search needs)
