@@ -81,11 +81,11 @@ module _ (n : Node) (st st′ st″ : State) (y : ℕ) (b : Begins st′ st″) 
   store-by true e = refused-not e
   store-by false e = ap (keep n st″) (sought-again (sought st) refl e)
 
-  pub store-again : store n st ≡ ok y st′ → store n st″ ≡ ok y st″
+  store-again : store n st ≡ ok y st′ → store n st″ ≡ ok y st″
   unfolding store
   store-again e = store-by (ltb mostMembers (length (members n))) e
 
--- a state whose nodes began as st's, of which k or more were there: their members are below them
+-- st is the later state; its first k nodes were there in the earlier ones too, and their members are below them
 module _ (st : State) (k : ℕ) (low : (i : ℕ) → i < k → Under i (members (nodeAt (st .nodes) i))) where
   node-began : {s : State} {x : ℕ} → Begins s st → k ≤ length (s .nodes) → x < k → nodeAt (st .nodes) x ≡ nodeAt (s .nodes) x
   node-began {s} {x} b le lt = ap (λ (ns : List Node). nodeAt ns x) (b .nodes) ∙ List·getD-append (s .nodes) (b .more) Bottom x (omega arith)
@@ -139,7 +139,7 @@ module _ (st : State) (k : ℕ) (low : (i : ℕ) → i < k → Under i (members 
       ap (λ (n : Node). negateNode (negateBy g) x n st) same
       ∙ node-again f g (negate-by-again f g) (nodeAt (s .nodes) x) x y s s′ (subst (λ (n : Node). Under x (members n)) same (low x lt)) lt (omega arith) (omega arith) le e b
 
--- in a state whose nodes' children are below them
+-- the law of a memory: nodes of which the children are below them are negated again to what they came to, in every later state, and it stays as it is
 pub negate-again : (x y : ℕ) (st st′ st″ : State) → Rooted (st .nodes) → x < length (st .nodes) → negate-output-ty x st ≡ ok y st′ → Later st′ st″
     → negate-output-ty x st″ ≡ ok y st″
 unfolding negate-output-ty

@@ -135,20 +135,19 @@ module _ {w held : List ℕ} {p : Pass} (c : Counted held p) where
 below-top : {st : State} {w : List ℕ} {q : Pass} {top : ℕ} → Stands st w q → top ≤ length (st .nodes) → (i : ℕ) → i < top → Under i (members (nodeAt (st .nodes) i))
 below-top {st} on le i lt = members-children i (nodeAt (st .nodes) i) (on .arena .below i (omega arith))
 
--- in cells that stay
+-- what is remembered stays so in cells that stay
 remembers-same : {st : State} {held held′ : List ℕ} {top : ℕ} → Remembers st held top → ((k : ℕ) → k < top → cell held′ (negatedAt + k) ≡ cell held (negatedAt + k))
     → Remembers st held′ top
 remembers-same m same = record { known = m .known; is = λ k y lt c. m .is k y lt (sym (same k lt) ∙ c) }
 
--- what is remembered stays so while nodes are added, in cells that stay
-remembers-more : {st st′ : State} {w held held′ : List ℕ} {q : Pass} {top : ℕ} → Remembers st held top → Stands st′ w q → Begins st st′
-    → ((k : ℕ) → k < top → cell held′ (negatedAt + k) ≡ cell held (negatedAt + k)) → Remembers st′ held′ top
-remembers-more {st} {st′} {top = top} m on begins same =
+-- and while nodes are added
+remembers-more : {st st′ : State} {w held : List ℕ} {q : Pass} {top : ℕ} → Remembers st held top → Stands st′ w q → Begins st st′ → Remembers st′ held top
+remembers-more {st} {st′} {top = top} m on begins =
     let longer : length (st .nodes) ≤ length (st′ .nodes) = omega (arith, ap length (begins .nodes), length-append (st .nodes) (begins .more)) in
     record {
       known = omega (arith, m .known);
       is = λ k y lt c.
-          let a = m .is k y lt (sym (same k lt) ∙ c) in
+          let a = m .is k y lt c in
           record {
             below = omega (arith, a .below);
             is = λ f l. negate-by-again st′ top (below-top on (omega (arith, m .known))) f f k y st st lt l l (m .known) (a .is f l) begins;
@@ -179,7 +178,7 @@ module _ (w held w′ held′ : List ℕ) (h x : ℕ) (st : State) (q : Pass) (t
           below = subst (λ (v : ℕ). v < length (a .after .nodes)) (e .is .0) (a .below);
           kept = λ k lt l. counting-other held p′ (e .is .1) k (λ z. omega (arith, l (omega arith))) (λ z. omega (arith, l (omega arith)));
         };
-        remembers = remembers-more mem on (record { more = kept .grows .more; nodes = kept .grows .nodes })
+        remembers = remembers-same (remembers-more mem on (record { more = kept .grows .more; nodes = kept .grows .nodes }))
             (λ k lt. counting-other held p′ (e .is .1) (negatedAt + k) (λ z. omega arith) (λ z. omega arith));
       }
   answered (NodeG y p′) (Refused k) a e = absurd (e .is)
