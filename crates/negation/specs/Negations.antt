@@ -86,6 +86,7 @@ pub record Remembers (st : State) (held : List ℕ) (top : ℕ) : Type 0 where
   pub known : top ≤ length (st .nodes)
   pub is : (k y : ℕ) → k < top → cell held (negatedAt + k) ≡ suc y → ComesAgain st k y
 
+-- and what is remembered after it is right in the state after it
 pub record NegationNoted (o : Out ℕ) (st : State) (w : List ℕ) (q : Pass) (h top : ℕ) (held held′ : List ℕ) (y : ℕ) : Type 0 where
   pub negation : Negation o st w q h held held′ y
   pub remembers : Remembers (negation .after) held′ top
@@ -103,6 +104,7 @@ AnswersGiven o st w h held held′ (RefusedG k) = o ≡ no k
 abbrev pub turnedNode : List ℕ → ℕ → ℕ → rules.Node
 turnedNode xs x k = if (eqb k 5) (λ _. Intersection xs) (λ _. if (eqb k 6) (λ _. Union xs) (λ _. Neg x))
 
+-- the negations of the members of x are held from h on
 pub record StoresNegation (w held : List ℕ) (h x n : ℕ) (w′ held′ : List ℕ) (r : Negated) : Type 0 where
   pub is : {st : State} (q : Pass) (top : ℕ) → Negatable st w (passIn held q) held h x → Remembers st held top → Under (length (st .nodes)) (part held h n)
       → AnswersCounted (store (turnedNode (part held h n) x (kindOf (nodeAt (st .nodes) x))) st) st w′ q h top held held′ r
@@ -112,6 +114,7 @@ pub record NegatesSingle (w held : List ℕ) (h x : ℕ) (w′ held′ : List �
   pub is : {st : State} (q : Pass) (f top : ℕ) → x < f → length (members (nodeAt (st .nodes) x)) ≡ 0 → Negatable st w (passIn held q) held h x
       → Remembers st held top → AnswersCounted (negateBy f x st) st w′ q h top held held′ r
 
+-- the cell of node x: the number of the node that it came to and 1, or 0
 pub record Recalled (held : List ℕ) (x r : ℕ) : Type 0 where
   pub is : r ≡ cell held (negatedAt + x)
 
