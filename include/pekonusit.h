@@ -16,9 +16,9 @@ extern "C" {
  * every return all of it is zero. No two slices may share a cell. */
 #define PEKONUSIT_DRAFT 65536         /* uint8_t */
 #define PEKONUSIT_TABLE 77378         /* uint32_t, for table and for old */
-#define PEKONUSIT_ARENA 53249         /* uint32_t, for canon and canon_root */
+#define PEKONUSIT_ARENA 57601         /* uint32_t, for canon and canon_root */
 #define PEKONUSIT_RECHECK_ARENA 65536 /* uint32_t, for recheck */
-#define PEKONUSIT_WORK 49152          /* uint32_t */
+#define PEKONUSIT_WORK 45058          /* uint32_t */
 
 /* The output may have any length; this is what the programs lend. A text that is longer than the output is refused with 12. */
 #define PEKONUSIT_OUTPUT 65536

@@ -7,7 +7,7 @@ use native.Mathlib.Omega.{arith}
 use native.Mathlib.Nat.{eq-or-lt-of-le}
 use native.Mathlib.Numerals.{add-one}
 use mathlib.Core.List.{List, [], _∷_, _++_}
-use lib.ListN.{length, set, length-set}
+use lib.ListN.{length, set}
 use lib.Seq.{getD-set-same, getD-set-other}
 use lib.Dec.{eqb, ltb}
 use borrow.Author.Tests.{ltb-true, ltb-false, eq-eqb, ne-eqb}
@@ -17,7 +17,7 @@ use Rattle.cells.specs.Clears.{Clears}
 use Rattle.cells.proofs.Parts.{run-snoc, cell-zero}
 use Rattle.cells.proofs.Holding.{holds-from}
 use Rattle.cells.proofs.Choices.{true-false, if-self}
-use Rattle.layout.specs.Layout.{bitsAt, heldAt, preservedAt, seenAt, marksAt, arenaWords}
+use Rattle.layout.specs.Layout.{bitsAt, heldAt, preservedAt, seenAt, marksAt}
 use Rattle.rules.specs.Plain.{any}
 use Rattle.rules.specs.Ceilings.{mostOperations, mostEntries}
 use Rattle.rules.specs.Types.{State, ok}
@@ -32,7 +32,7 @@ use Rattle.lang_ty.specs.declared.arena.Pass.{Pass}
 use Rattle.lang_ty.specs.declared.arena.Given.{Given}
 use Rattle.lang_ty.specs.declared.arena.Shown.{Shown}
 use Rattle.lang_ty.specs.declared.arena.Given.the-variants.{Node as NodeG, Refused}
-use Rattle.lang_ty.specs.Nodes.{Stands, Answers as Stores}
+use Rattle.lang_ty.specs.Nodes.{Stands, Fresh, Answers as Stores}
 use Rattle.lang_ty.proofs.Stores.{stands-none}
 use Rattle.storage.proofs.Alike.{reads-alike}
 use Rattle.storage.specs.declared.given.Canon.{Canon}
@@ -50,7 +50,7 @@ unfolding pass
 pass-is p t id pol = refl
 
 module _ {table : List ℕ} {c : Canon} {w w1 work work1 work2 work3 : List ℕ} {two : ℕ} {q : Pass} {id : ℕ} {pol : Polarity} {w′ work′ : List ℕ} {r : Given} where
-  pub one-pass : Sum (c .count) (c .count) two → Clears work 0 two work1 → Clears work1 bitsAt (c .count) work2 → Clears work2 seenAt (c .count) work3 → w1 ≡ set w 0 arenaWords → NoneCounted q
+  pub one-pass : Sum (c .count) (c .count) two → Clears work 0 two work1 → Clears work1 bitsAt (c .count) work2 → Clears work2 seenAt (c .count) work3 → Fresh w w1 → NoneCounted q
       → Visits table c w1 work3 96 heldAt q id pol w′ work′ r → length work1 ≡ length work → length work2 ≡ length work1 → length work3 ≡ length work2
       → OnePass table c w work id pol w′ work′ r
   one-pass sum a b d e none v len1 len2 len3 =
@@ -62,8 +62,6 @@ module _ {table : List ℕ} {c : Canon} {w w1 work work1 work2 work3 : List ℕ}
             let fr = load-fresh t (p .count) in
             let ids = tb .ids in
             let long = lent .work in
-            let size = ap length e ∙ length-set w 0 arenaWords in
-            let arena = lent .arena in
             let keyed : Keyed (p .count) (fresh (p .count)) work3 =
             record {
               keys = λ i l. d .before i (omega arith) ∙ b .before i (omega arith) ∙ a .zero i (omega arith) (omega arith) ∙ sym (cell-zero (2 * p .count) i);
@@ -78,8 +76,7 @@ module _ {table : List ℕ} {c : Canon} {w w1 work work1 work2 work3 : List ℕ}
               steady = steady-fresh (p .count);
               roomed = record { behind = omega arith; fits = omega arith; long = omega arith };
             } in
-            let first : cell w1 0 ≡ arenaWords = ap (λ (l : List ℕ). cell l 0) e ∙ getD-set-same w 0 arenaWords 0 (omega arith) in
-            let on : Stands (fresh (p .count)) w1 q = stands-none refl refl (sym (none .ops)) (sym (none .sorted)) (sym (none .bailed)) (none .nodes) (none .cells) first (omega arith) in
+            let on : Stands (fresh (p .count)) w1 q = stands-none e refl refl (sym (none .ops)) (sym (none .sorted)) (sym (none .bailed)) (none .nodes) (none .cells) (lent .arena) in
             let ans = v .is poised on lt in
             answers-out (sym (pass-is p t id pol)) (answers-base (λ x st z. record { is = λ j lo hi. absurd (omega arith) }) ans);
       }

@@ -17,7 +17,6 @@ use lang_ty::arena::Given;
 use lang_ty::arena::OutputTy;
 use lang_ty::arena::Pass;
 use lang_ty::arena::Shown;
-use layout::ArenaSlice;
 use layout::TableSlice;
 use layout::WorkSlice;
 use members::lists::Flow;
@@ -428,7 +427,7 @@ fn one_pass(
     cells::clear(work, 0, add(c.count, c.count));
     cells::clear(work, WorkSlice::BITS, c.count);
     cells::clear(work, WorkSlice::SEEN, c.count);
-    set(arena, 0, ArenaSlice::WORDS);
+    arena::fresh(arena);
     visit(
         table,
         c,

@@ -1,22 +1,25 @@
--- The search for a node's row, turn by turn. Assumes nothing.
+-- The search for a node's row along its bucket, turn by turn. Assumes nothing.
 use mathlib.Core.Path.{_≡_, refl, sym, ap, ap₂, _∙_}
 use mathlib.Core.Bool.{Bool, true, false}
-use Prim.Native.Nat.{ℕ, suc, _+_, _≤_, _<_}
+use Prim.Native.Nat.{ℕ, zero, suc, _+_, _-_, _≤_, _<_}
 use native.Mathlib.Omega.{arith}
-use native.Mathlib.Numerals.{add-one}
-use mathlib.Core.List.{List, [], _∷_, map}
-use lib.ListN.{length, getD, drop, length-map, List·getD-map, drop-of-length-le}
-use lib.Seq.{drop-cons}
+use mathlib.Core.List.{List}
+use lib.ListN.{length}
 use Rattle.cells.specs.Part.{cell, part, if, eqList}
 use Rattle.cells.specs.Sum.{Sum}
 use Rattle.cells.proofs.Parts.{left, left-whole, left-next, left-other, left-none, eqList-longer}
-use Rattle.rules.specs.Types.{Node, Bottom, encode, nodeAt}
+use Rattle.layout.specs.Layout.{earlierAt, hashesAt}
+use Rattle.rules.specs.Types.{Node, encode, nodeAt}
+use Rattle.laws.specs.Indexed.{bucketAt, rowAt, newest, seek, seekNode}
+use Rattle.laws.proofs.Indexing.{newest-low, newest-is, seek-newest, seek-turn}
+use Rattle.laws.proofs.Storing.{eqList-true}
 use Rattle.lang_ty.specs.declared.arena.Pass.{Pass}
 use Rattle.lang_ty.specs.declared.arena.Found.the-variants.{At, Nowhere}
-use Rattle.lang_ty.specs.Nodes.{Same, Offered, RowIs, Sought}
+use Rattle.lang_ty.specs.Nodes.{Same, Offered, RowIs, Hit, Sought}
 use Rattle.lang_ty.proofs.Words.{row-few}
 use mathlib.Core.Option.{some}
-use Rattle.rules.specs.Plain.{find}
+use Rattle.lang_ty.specs.Buckets.{hash, bucketOf, bucket, linkOf, Newest}
+use Rattle.lang_ty.proofs.Buckets.{bucket-low}
 
 -- `same` at word i: what is left to compare says what the whole says
 pub record Comparing (w : List ℕ) (a b n i : ℕ) : Type 0 where
@@ -68,41 +71,142 @@ module _ {w : List ℕ} {i top len a p e l : ℕ} (from : a ≡ cell w i) (next 
             (ap₂ (part w) from m ∙ o .arena .rows i lt .is);
       }
 
--- `find` at row i: what is left to search comes to what the whole comes to
-pub record Seeking (w : List ℕ) (nodes top len i : ℕ) : Type 0 where
-  pub few : i ≤ nodes
-  pub is : {q : Pass} {ns : List Node} {n : Node} → Offered w q top len ns n → nodes ≡ length ns
-      → find (eqList (encode n)) i (drop i (map encode ns)) ≡ find (eqList (encode n)) 0 (map encode ns)
+not-true : (b : Bool) → (b ≡ true → ⊥) → false ≡ b
+not-true true f = absurd (f refl)
+not-true false f = refl
 
-module _ {w : List ℕ} {nodes top len : ℕ} where
-  pub seeking-start : Seeking w nodes top len 0
-  seeking-start = record { few = omega arith; is = λ o e. refl }
+-- `hit`: rows of different hashes are different
+module _ {w : List ℕ} {x h top len p g : ℕ} (at : p ≡ hashesAt + x) (is : g ≡ cell w p) where
+  pub hit-other : (g ≡ h → ⊥) → Hit w x h top len false
+  hit-other apart =
+      record {
+        is = λ {q} {ns} {n} o e lt.
+            let told = is ∙ ap (cell w) at ∙ o .arena .index .hash-of x lt in
+            not-true (eqList (encode n) (encode (nodeAt ns x)))
+            (λ z. apart (told ∙ ap hash (sym (eqList-true (encode n) (encode (nodeAt ns x)) z)) ∙ sym e));
+      }
 
-  module _ {i : ℕ} (c : Seeking w nodes top len i) where
-    -- row i is searched first, and says b
-    turn : {q : Pass} {ns : List Node} {n : Node} {b : Bool} → Offered w q top len ns n → nodes ≡ length ns → i < nodes → b ≡ eqList (encode n) (encode (nodeAt ns i))
-        → if b (λ _. some i) (λ _. find (eqList (encode n)) (suc i) (drop (suc i) (map encode ns))) ≡ find (eqList (encode n)) 0 (map encode ns)
-    turn {ns = ns} {n = n} {b = b} o e lt g =
-        let rows = map encode ns in
-        let k : getD rows i (9 ∷ []) ≡ encode (nodeAt ns i) = List·getD-map encode ns i Bottom in
-        ap (λ (t : Bool). if t (λ _. some i) (λ _. find (eqList (encode n)) (suc i) (drop (suc i) rows))) (g ∙ ap (eqList (encode n)) (sym k))
-        ∙ sym (ap (λ (l : List (List ℕ)). find (eqList (encode n)) i l) (drop-cons rows i (9 ∷ []) (omega (arith, length-map ns encode))))
-        ∙ c .is o e
+  pub hit-same : {r : Bool} → RowIs w x top len r → Hit w x h top len r
+  hit-same c = record { is = λ o e lt. c .is o lt }
 
-    pub seeking-here : {b : Bool} → RowIs w i top len b → b ≡ true → i < nodes → Sought w nodes top len (At i)
-    seeking-here g t lt = record { is = λ o e. turn o e lt (sym t ∙ g .is o (omega arith)) }
+-- what `find` has left to search of the first i nodes: it comes to what the whole search comes to
+pub record Left (ns : List Node) (n : Node) (i : ℕ) : Type 0 where
+  pub few : i ≤ length ns
+  pub of-bucket : (x : ℕ) → i ≡ suc x → bucketAt bucket ns x ≡ bucket (encode n)
+  pub is : seek (bucketAt bucket ns) (rowAt (encode n) ns) (bucket (encode n)) i ≡ seekNode bucket n ns
 
-    pub seeking-more : {b : Bool} → RowIs w i top len b → b ≡ false → i < nodes → Seeking w nodes top len (i + 1)
-    seeking-more g t lt =
+-- p tells the newest of those
+pub record At-link (ns : List Node) (n : Node) (p : ℕ) : Type 0 where
+  pub number : ℕ
+  pub is : p ≡ linkOf number
+  pub left : Left ns n number
+
+-- the newest of the first k nodes, where these are what is left
+newest-left : (ns : List Node) (n : Node) (k p : ℕ) → k ≤ length ns → seek (bucketAt bucket ns) (rowAt (encode n) ns) (bucket (encode n)) k ≡ seekNode bucket n ns
+    → p ≡ linkOf (newest (bucketAt bucket ns) (bucket (encode n)) k) → At-link ns n p
+newest-left ns n k p le h e =
+    let f = bucketAt bucket ns in
+    let b = bucket (encode n) in
+    record {
+      number = newest f b k;
+      is = e;
+      left = record {
+        few = omega (arith, newest-low f b k);
+        of-bucket = λ x z. newest-is f b k x z;
+        is = sym (seek-newest f b (rowAt (encode n) ns) k) ∙ h;
+      };
+    }
+
+pub record Walking (w : List ℕ) (h top len p : ℕ) : Type 0 where
+  pub small : p ≤ 4294967295
+  pub is : {q : Pass} {ns : List Node} {n : Node} → Offered w q top len ns n → h ≡ hash (encode n) → At-link ns n p
+
+-- the number that a place tells
+number-zero : (i p : ℕ) → p ≡ linkOf i → p < earlierAt → i ≡ 0
+number-zero zero p e lt = refl
+number-zero (suc x) p e lt = absurd (omega arith)
+
+number-suc : (i p x : ℕ) → p ≡ linkOf i → earlierAt ≤ p → x ≡ p - earlierAt → i ≡ suc x
+number-suc zero p x e le f = absurd (omega arith)
+number-suc (suc y) p x e le f = omega arith
+
+-- links fall
+link-low : (i x : ℕ) → i ≤ x → linkOf i < earlierAt + x
+link-low zero x le = omega arith
+link-low (suc y) x le = omega arith
+
+module _ {w : List ℕ} {h top len p : ℕ} where
+  pub walking-start : Newest w h p → p ≤ 4294967295 → Walking w h top len p
+  walking-start c small =
+      record {
+        small = small;
+        is = λ {q} {ns} {n} o e.
+            let low = bucket-low (encode n) e in
+            newest-left ns n (length ns) p (omega arith) refl
+            (c .is ∙ o .arena .index .newest-of (bucketOf h) low
+            ∙ ap (λ (b : ℕ). linkOf (newest (bucketAt bucket ns) b (length ns))) (ap bucketOf e));
+      }
+
+  pub walking-done : Walking w h top len p → p < earlierAt → Sought w h top len Nowhere
+  walking-done c lt =
+      record {
+        is = λ {q} {ns} {n} o e.
+            let l = c .is o e in
+            ap (seek (bucketAt bucket ns) (rowAt (encode n) ns) (bucket (encode n))) (sym (number-zero (l .number) p (l .is) lt)) ∙ l .left .is;
+      }
+
+  module _ {x : ℕ} {t : Bool} (c : Walking w h top len p) (le : earlierAt ≤ p) (at : x ≡ p - earlierAt) (g : Hit w x h top len t) where
+    module _ {q : Pass} {ns : List Node} {n : Node} (o : Offered w q top len ns n) (e : h ≡ hash (encode n)) where
+      number-is : c .is o e .number ≡ suc x
+      number-is = number-suc (c .is o e .number) p x (c .is o e .is) le at
+
+      among : x < length ns
+      among = omega (arith, number-is, c .is o e .left .few)
+
+      of : bucketAt bucket ns x ≡ bucket (encode n)
+      of = c .is o e .left .of-bucket x number-is
+
+      -- node x is looked at next, and says t
+      turn : if t (λ _. some x) (λ _. seek (bucketAt bucket ns) (rowAt (encode n) ns) (bucket (encode n)) x) ≡ seekNode bucket n ns
+      turn =
+          let f = bucketAt bucket ns in
+          let r = rowAt (encode n) ns in
+          let b = bucket (encode n) in
+          ap (λ (u : Bool). if u (λ _. some x) (λ _. seek f r b x)) (g .is o e among)
+          ∙ sym (seek-turn f b r x of) ∙ sym (ap (seek f r b) number-is) ∙ c .is o e .left .is
+
+      -- where the next link leads
+      next : {e′ : ℕ} → e′ ≡ cell w p → e′ ≡ linkOf (newest (bucketAt bucket ns) (bucket (encode n)) x)
+      next z =
+          let here : p ≡ earlierAt + x = omega arith in
+          z ∙ ap (cell w) here ∙ o .arena .index .earlier-of x among ∙ ap (λ (b : ℕ). linkOf (newest (bucketAt bucket ns) b x)) of
+
+    pub walking-here : t ≡ true → Sought w h top len (At x)
+    walking-here z =
         record {
-          few = omega arith;
           is = λ {q} {ns} {n} o e.
-              ap (λ (k : ℕ). find (eqList (encode n)) k (drop k (map encode ns))) (add-one i) ∙ turn o e lt (sym t ∙ g .is o (omega arith));
+              ap (λ (u : Bool). if u (λ _. some x) (λ _. seek (bucketAt bucket ns) (rowAt (encode n) ns) (bucket (encode n)) x)) (sym z) ∙ turn o e;
         }
 
-    pub seeking-done : nodes ≤ i → Sought w nodes top len Nowhere
-    seeking-done h =
-        record {
-          is = λ {q} {ns} {n} o e.
-              sym (ap (λ (l : List (List ℕ)). find (eqList (encode n)) i l) (drop-of-length-le (map encode ns) {i = i} (omega (arith, length-map ns encode)))) ∙ c .is o e;
-        }
+    module _ {v i : ℕ} (other : t ≡ false) (read : v ≡ cell w p) (same : i ≡ v) where
+      -- a link that does not fall is in no index
+      pub walking-lost : p ≤ i → Sought w h top len Nowhere
+      walking-lost up =
+          record {
+            is = λ {q} {ns} {n} o e.
+                absurd (omega (arith, next o e (same ∙ read), newest-falls ns n));
+          }
+        where
+          newest-falls : (ns : List Node) (n : Node) → linkOf (newest (bucketAt bucket ns) (bucket (encode n)) x) < p
+          newest-falls ns n =
+              omega (arith, link-low (newest (bucketAt bucket ns) (bucket (encode n)) x) x (newest-low (bucketAt bucket ns) (bucket (encode n)) x))
+
+      pub walking-more : i < p → Walking w h top len i
+      walking-more down =
+          record {
+            small = omega (arith, c .small);
+            is = λ {q} {ns} {n} o e.
+                newest-left ns n x i (omega (arith, among o e))
+                (ap (λ (u : Bool). if u (λ _. some x) (λ _. seek (bucketAt bucket ns) (rowAt (encode n) ns) (bucket (encode n)) x)) (sym other) ∙ turn o e)
+                (next o e (same ∙ read));
+          }

@@ -18,6 +18,7 @@ use Rattle.lang_ty.specs.declared.arena.Given.{Given}
 use Rattle.lang_ty.specs.declared.arena.Given.the-variants.{Refused}
 use Rattle.lang_ty.specs.Nodes.{Stands, Top, Interned, Written, Copied, Stored, Listed}
 use Rattle.lang_ty.proofs.Words.{row-end, high}
+use Rattle.lang_ty.proofs.Buckets.{index-alike}
 
 pub written-none : (t : ℕ) (w : List ℕ) → Written t w w []
 written-none t w = record { same-length = refl; below = λ k lt. refl; row = λ h. holds-none w t }
@@ -91,6 +92,8 @@ stands-below {st} {w} {w′} {xs} {q} on h =
         top = let z = h .below (q .nodes) (omega (arith, high a, a .few)) in omega (arith, a .top);
         below = a .below;
         slim = a .slim;
+        distinct = a .distinct;
+        index = index-alike (a .index) (omega (arith, a .count, a .few)) (λ k lt. h .below k (omega (arith, high a)));
         room = omega (arith, h .same-length, a .room);
       };
       cells = on .cells;

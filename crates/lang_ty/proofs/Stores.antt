@@ -1,16 +1,20 @@
 -- What callers cite of the store: an answer taken apart, a store of each kind of node, and the slices with no node. Assumes nothing.
 use mathlib.Core.Path.{_≡_, refl, sym, ap, _∙_, subst}
-use Prim.Native.Nat.{ℕ, _≤_, _<_}
+use Prim.Native.Nat.{ℕ, _+_, _≤_, _<_}
 use native.Mathlib.Omega.{arith}
 use mathlib.Core.List.{List, [], _∷_}
-use lib.ListN.{length}
+use lib.ListN.{length, set, length-set}
+use lib.Seq.{getD-set-same, getD-set-other}
+use native.Mathlib.Nat.{not-suc-le-zero}
 use Rattle.cells.specs.Part.{cell}
-use Rattle.layout.specs.Layout.{arenaWords, arenaLength}
+use Rattle.cells.specs.Clears.{Clears}
+use Rattle.layout.specs.Layout.{newestAt, buckets, arenaWords, arenaLength}
+use Rattle.laws.proofs.Storing.{distinct-none}
 use Rattle.rules.specs.Types.{State, Out, no, Node, TyVar, Primitive, ListOf, Lambda, Union, Intersection, Named, Bottom, encode, store}
 use Rattle.lang_ty.specs.declared.arena.Pass.{Pass}
 use Rattle.lang_ty.specs.declared.arena.Given.{Given}
 use Rattle.lang_ty.specs.declared.arena.Given.the-variants.{Node as NodeG, Refused}
-use Rattle.lang_ty.specs.Nodes.{Stands, Gives, Answer, Answers, Fits, Stored}
+use Rattle.lang_ty.specs.Nodes.{Arena, Stands, Fresh, Gives, Answer, Answers, Fits, Stored}
 
 module _ {o : Out ℕ} {w : List ℕ} {r : Given} where
   pub gives : {x : ℕ} {q : Pass} → Answers o w r → r ≡ NodeG x q → Gives o w x q
@@ -57,25 +61,41 @@ module _ {st : State} {w w′ : List ℕ} {q : Pass} {r : Given} (on : Stands st
           h .is {n = Intersection (a ∷ b ∷ [])} on (record { cells = refl; few = omega arith; below = (lt, (lt′, tt)); short = omega arith }) refl
 
 -- the slice holds no node
-pub stands-none : {st : State} {w : List ℕ} {q : Pass} → st .nodes ≡ [] → st .cells ≡ 0 → st .ops ≡ q .ops → st .sorted ≡ q .sorted → st .bailed ≡ q .bailed
-    → q .nodes ≡ 0 → q .cells ≡ 0 → cell w 0 ≡ arenaWords → arenaLength ≤ length w → Stands st w q
-stands-none {st} {w} {q} none cells ops sorted bailed nodes no-cells first room =
-    let few : length (st .nodes) ≡ 0 = ap length none in
-    let top : cell w (q .nodes) ≡ arenaWords = ap (cell w) nodes ∙ first in
+pub fresh-is : {w w₁ w₂ : List ℕ} → Clears w newestAt buckets w₁ → w₂ ≡ set w₁ 0 arenaWords → length w₁ ≡ length w → Fresh w w₂
+fresh-is {w} {w₁} {w₂} cl e size =
     record {
-      arena = record {
-        count = omega arith;
-        few = omega arith;
-        cells = omega arith;
-        first = omega arith;
-        rows = λ i lt. absurd (omega arith);
-        ends = λ i lt. absurd (omega arith);
-        top = omega arith;
-        below = λ i lt. absurd (omega arith);
-        slim = λ i lt. absurd (omega arith);
-        room = room;
-      };
-      cells = omega arith;
+      is = λ {q} none no-cells room.
+          let long = ap length e ∙ length-set w₁ 0 arenaWords in
+          let first : cell w₂ 0 ≡ arenaWords = ap (λ (l : List ℕ). cell l 0) e ∙ getD-set-same w₁ 0 arenaWords 0 (omega arith) in
+          let top : cell w₂ (q .nodes) ≡ arenaWords = ap (cell w₂) none ∙ first in
+          record {
+            count = sym none;
+            few = omega arith;
+            cells = omega arith;
+            first = omega arith;
+            rows = λ i lt. absurd (not-suc-le-zero lt);
+            ends = λ i lt. absurd (not-suc-le-zero lt);
+            top = omega arith;
+            below = λ i lt. absurd (not-suc-le-zero lt);
+            slim = λ i lt. absurd (not-suc-le-zero lt);
+            distinct = distinct-none;
+            index = record {
+              newest-of = λ b lt.
+                  ap (λ (l : List ℕ). cell l (newestAt + b)) e ∙ getD-set-other w₁ 0 (newestAt + b) arenaWords 0 (λ z. omega arith)
+                  ∙ cl .zero (newestAt + b) (omega arith) (omega arith);
+              earlier-of = λ i lt. absurd (not-suc-le-zero lt);
+              hash-of = λ i lt. absurd (not-suc-le-zero lt);
+            };
+            room = omega arith;
+          };
+    }
+
+pub stands-none : {st : State} {w w′ : List ℕ} {q : Pass} → Fresh w w′ → st .nodes ≡ [] → st .cells ≡ 0 → st .ops ≡ q .ops → st .sorted ≡ q .sorted
+    → st .bailed ≡ q .bailed → q .nodes ≡ 0 → q .cells ≡ 0 → arenaLength ≤ length w → Stands st w′ q
+stands-none {st} {w} {w′} {q} fresh none cells ops sorted bailed nodes no-cells room =
+    record {
+      arena = subst (Arena w′ q) (sym none) (fresh .is nodes no-cells room);
+      cells = cells ∙ sym no-cells;
       ops = ops;
       sorted = sorted;
       bailed = bailed;

@@ -103,5 +103,7 @@ arena-pass {w} e f a =
       top = let g = ap (cell w) e in omega (arith, a .top);
       below = a .below;
       slim = a .slim;
+      distinct = a .distinct;
+      index = a .index;
       room = a .room;
     }

@@ -1,3 +1,4 @@
+pub mod Buckets
 pub mod Nodes
 pub mod Sets
 pub mod Shapes

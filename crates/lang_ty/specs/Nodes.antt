@@ -3,14 +3,13 @@
 use mathlib.Core.Path.{_≡_}
 use mathlib.Core.Bool.{Bool}
 use Prim.Native.Nat.{ℕ, suc, _+_, _*_, _≤_, _<_}
-use mathlib.Core.List.{List, _∷_, map}
+use mathlib.Core.List.{List, [], _∷_, _++_}
 use mathlib.Core.Option.{Option, none, some}
 use lib.ListN.{length, getD, set}
 use Rattle.cells.specs.Part.{cell, part, eqList}
 use Rattle.layout.specs.Layout.{arenaWords, arenaLength}
 use Rattle.rules.specs.Ceilings.{mostMembers, mostNodes, mostCells}
 use Rattle.rules.specs.Types.{State, Out, ok, no, encode, kindOf, members, children, cellsOf, nodeAt, store}
-use Rattle.rules.specs.Plain.{find}
 use Rattle.rules.specs.Types as rules
 use Rattle.rules.specs.Canonicalizer as runs
 use Rattle.lang_ty.specs.declared.arena.Pass.{Pass}
@@ -20,13 +19,16 @@ use Rattle.lang_ty.specs.declared.arena.Shown.{Shown}
 use Rattle.lang_ty.specs.declared.arena.Found.{Found}
 use Rattle.lang_ty.specs.declared.arena.Found.the-variants.{At, Nowhere}
 use Rattle.cells.specs.Placed.{Holds, Under}
+use Rattle.laws.specs.Sound.{Distinct}
+use Rattle.laws.specs.Indexed.{seekNode}
+use Rattle.lang_ty.specs.Buckets.{hash, bucket, Indexed}
 
 -- where the last row ends at most
 abbrev pub highest : ℕ
 highest = arenaWords + 6 * mostNodes + mostCells
 
--- the slice holds these nodes, "children first", none with more members than may be. A row has at most 6 words besides its cells, so that
--- there is room for one of 8,192 words after the last
+-- the slice holds these nodes, "children first", each once, none with more members than may be, and an index of them. A row has at most 6 words
+-- besides its cells, so that there is room for one of 4,096 words after the last
 pub record Arena (w : List ℕ) (q : Pass) (ns : List rules.Node) : Type 0 where
   pub count : length ns ≡ q .nodes
   pub few : q .nodes ≤ mostNodes
@@ -37,6 +39,8 @@ pub record Arena (w : List ℕ) (q : Pass) (ns : List rules.Node) : Type 0 where
   pub top : cell w (q .nodes) ≤ arenaWords + 6 * q .nodes + q .cells
   pub below : (i : ℕ) → i < length ns → Under i (children (nodeAt ns i))
   pub slim : (i : ℕ) → i < length ns → length (members (nodeAt ns i)) ≤ mostMembers
+  pub distinct : Distinct ns
+  pub index : Indexed w ns
   pub room : arenaLength ≤ length w
 
 -- the slice and the counts are those of a state; its keys and bits lie elsewhere
@@ -95,19 +99,23 @@ pub record Offered (w : List ℕ) (q : Pass) (top len : ℕ) (ns : List rules.No
   pub arena : Arena w q ns
   pub row : Holds w top (encode n)
   pub size : len ≡ length (encode n)
-  pub short : len ≤ 8192
+  pub short : len ≤ 4096
 
 -- whether node i's row is that of n
 pub record RowIs (w : List ℕ) (i top len : ℕ) (r : Bool) : Type 0 where
   pub is : {q : Pass} {ns : List rules.Node} {n : rules.Node} → Offered w q top len ns n → i < length ns → r ≡ eqList (encode n) (encode (nodeAt ns i))
 
+-- the same, by the hash first
+pub record Hit (w : List ℕ) (x h top len : ℕ) (r : Bool) : Type 0 where
+  pub is : {q : Pass} {ns : List rules.Node} {n : rules.Node} → Offered w q top len ns n → h ≡ hash (encode n) → x < length ns
+      → r ≡ eqList (encode n) (encode (nodeAt ns x))
+
 abbrev pub foundOf : Found → Option ℕ
 foundOf (At i) = some i
 foundOf Nowhere = none
 
-pub record Sought (w : List ℕ) (nodes top len : ℕ) (r : Found) : Type 0 where
-  pub is : {q : Pass} {ns : List rules.Node} {n : rules.Node} → Offered w q top len ns n → nodes ≡ length ns
-      → foundOf r ≡ find (eqList (encode n)) 0 (map encode ns)
+pub record Sought (w : List ℕ) (h top len : ℕ) (r : Found) : Type 0 where
+  pub is : {q : Pass} {ns : List rules.Node} {n : rules.Node} → Offered w q top len ns n → h ≡ hash (encode n) → foundOf r ≡ seekNode bucket n ns
 
 -- what is asked of a node that is to be stored after k others: its cells, members no more than may be, its children among those, and a
 -- row that has room
@@ -115,17 +123,21 @@ pub record Fits (n : rules.Node) (k count : ℕ) : Type 0 where
   pub cells : cellsOf n ≡ count
   pub few : length (members n) ≤ mostMembers
   pub below : Under k (children n)
-  pub short : length (encode n) ≤ 8192
+  pub short : length (encode n) ≤ 4096
 
 -- n as the next node; 8 where it would be a 4,097th, 9 where "node cells in a pass would pass 16,384"
-pub record Kept (w : List ℕ) (q : Pass) (end cells : ℕ) (w′ : List ℕ) (r : Given) : Type 0 where
-  pub is : {st : State} {n : rules.Node} → Stands st w q → Fits n (q .nodes) cells → Holds w (cell w (q .nodes)) (encode n)
-      → end ≡ cell w (q .nodes) + length (encode n) → Answers (rules.keep n st none) w′ r
+pub record Kept (w : List ℕ) (q : Pass) (h end cells : ℕ) (w′ : List ℕ) (r : Given) : Type 0 where
+  pub is : {st : State} {n : rules.Node} → Stands st w q → Fits n (q .nodes) cells → Holds w (cell w (q .nodes)) (encode n) → h ≡ hash (encode n)
+      → end ≡ cell w (q .nodes) + length (encode n) → Distinct (st .nodes ++ (n ∷ [])) → Answers (rules.keep n st none) w′ r
 
 -- the len words after the last row, as a node: "Storing an equal node again takes nothing"
 pub record Interned (w : List ℕ) (q : Pass) (len cells : ℕ) (w′ : List ℕ) (r : Given) : Type 0 where
   pub is : {st : State} {n : rules.Node} → Stands st w q → Fits n (q .nodes) cells → Holds w (cell w (q .nodes)) (encode n)
       → len ≡ length (encode n) → Answers (store n st) w′ r
+
+-- no node yet
+pub record Fresh (w w′ : List ℕ) : Type 0 where
+  pub is : {q : Pass} → q .nodes ≡ 0 → q .cells ≡ 0 → arenaLength ≤ length w → Arena w′ q []
 
 pub record Top (w : List ℕ) (q : Pass) (r : ℕ) : Type 0 where
   pub is : r ≡ cell w (q .nodes)

@@ -1,12 +1,14 @@
 // TypeArena: node i is arena[arena[i]..arena[i + 1]], the number of its kind and then its contents. A new node's row is written after
-// the last one, compared with each row, and kept by a greater count or dropped by none.
+// the last one, compared with the rows of its bucket, and kept by a greater count or dropped by none.
+use crate::index;
 use cells::add;
 use cells::at;
 use cells::get;
 use cells::place;
 use cells::put;
 use cells::set;
-ghost use Rattle.lang_ty.specs.Nodes.{Word, Kind, Is, Count, Member, Same, RowIs, Sought, Kept, Interned, Top, Written, Copied, Stored, Listed};
+use layout::ArenaSlice;
+ghost use Rattle.lang_ty.specs.Nodes.{Word, Kind, Is, Count, Member, Same, RowIs, Hit, Sought, Kept, Interned, Fresh, Top, Written, Copied, Stored, Listed};
 ghost use mathlib.Core.List.{[], _∷_};
 ghost use Rattle.cells.specs.Part.{part};
 
@@ -140,23 +142,39 @@ fn row_is(arena: &[u32], i: u32, top: u32, len: u32) -> bool
     same(arena, top, a, len)
 }
 
-// The first row that equals the len words from top on.
-fn find(arena: &[u32], nodes: u32, top: u32, len: u32) -> Found
-    ensures { λ r. ⌜ Sought (now (arena .entry)) nodes top len r ⌝ }
+// Whether row x is the len words from top on, whose hash is h.
+fn hit(arena: &[u32], x: u32, h: u32, top: u32, len: u32) -> bool
+    ensures { λ r. ⌜ Hit (now (arena .entry)) x h top len r ⌝ }
 {
-    let mut i = 0;
-    while i < nodes {
-        if row_is(arena, i, top, len) {
-            return Found::At(i);
+    if get(arena, place(ArenaSlice::HASHES, x)) != h {
+        return false;
+    }
+    row_is(arena, x, top, len)
+}
+
+// The node whose row is the len words from top on, whose hash is h: the links of its bucket are followed. They fall; one that does not ends the
+// search, so that it ends in any slice.
+fn find(arena: &[u32], h: u32, top: u32, len: u32) -> Found
+    ensures { λ r. ⌜ Sought (now (arena .entry)) h top len r ⌝ }
+{
+    let mut p = index::newest(arena, h) as usize;
+    while ArenaSlice::EARLIER as usize <= p {
+        let x = (p - ArenaSlice::EARLIER as usize) as u32;
+        if hit(arena, x, h, top, len) {
+            return Found::At(x);
         }
-        i += 1;
+        let e = get(arena, p) as usize;
+        if p <= e {
+            return Found::Nowhere;
+        }
+        p = e;
     }
     Found::Nowhere
 }
 
-// The new row as the next node, with its cells.
-fn keep(arena: &mut [u32], q: Pass, end: u32, cells: u32) -> Given
-    ensures { λ r. ⌜ Kept (now (arena .entry)) q end cells (now (arena .exit)) r ⌝ }
+// The new row, whose hash is h, as the next node, with its cells.
+fn keep(arena: &mut [u32], q: Pass, h: u32, end: u32, cells: u32) -> Given
+    ensures { λ r. ⌜ Kept (now (arena .entry)) q h end cells (now (arena .exit)) r ⌝ }
 {
     let n = q.nodes;
     if Pass::NODES <= n {
@@ -167,6 +185,7 @@ fn keep(arena: &mut [u32], q: Pass, end: u32, cells: u32) -> Given
         return Given::Refused(9);
     }
     put(arena, place(n, 1), end);
+    index::link(arena, h, n);
     let r = Pass {
         nodes: n + 1,
         cells: sum,
@@ -183,10 +202,19 @@ pub fn intern(arena: &mut [u32], q: Pass, len: u32, cells: u32) -> Given
 {
     let n = q.nodes;
     let top = at(arena, n);
-    match find(arena, n, top, len) {
+    let h = index::hash(arena, top, len);
+    match find(arena, h, top, len) {
         Found::At(i) => Given::Node(i, q),
-        Found::Nowhere => keep(arena, q, add(top, len), cells),
+        Found::Nowhere => keep(arena, q, h, add(top, len), cells),
     }
+}
+
+// TypeArena::new: no nodes, and none in any bucket. Links and hashes are written before they are read, so those of another pass stay.
+pub fn fresh(arena: &mut [u32])
+    ensures { λ _. ⌜ Fresh (now (arena .entry)) (now (arena .exit)) ⌝ }
+{
+    cells::clear(arena, ArenaSlice::NEWEST, ArenaSlice::BUCKETS);
+    set(arena, 0, ArenaSlice::WORDS);
 }
 
 // The first word that no row has.

@@ -3,4 +3,5 @@ pub mod arc_ty;
 pub mod arena;
 pub mod attrset;
 pub mod disjoint;
+pub mod index;
 pub mod primitive;

@@ -1,6 +1,7 @@
 -- Laws of the rules.
 pub mod Rows
 pub mod Storing
+pub mod Indexing
 pub mod Shapes
 pub mod Ordering
 pub mod Filtering

@@ -13,6 +13,7 @@ use borrow.Author.Tests.{lt-ltb, le-ltb, eqb-true, eq-eqb}
 use Rattle.cells.specs.Part.{if, eqList}
 use Rattle.rules.specs.Ceilings.{mostMembers, mostNodes, mostCells}
 use Rattle.rules.specs.Types.{Node, Bottom, State, Out, ok, no, encode, members, children, cellsOf, nodeAt, grown, keep, store}
+use Rattle.laws.specs.Sound.{Distinct}
 use Rattle.laws.proofs.Rows.{encode-injective}
 use Rattle.cells.specs.Placed.{Under}
 use Rattle.cells.proofs.Choices.{true-false}
@@ -90,7 +91,7 @@ pub hit : (e : List ℕ) (rs : List (List ℕ)) (i j : ℕ) → find (eqList e) 
 hit e [] i j h = let z : _≡_ {A = ℕ} 0 1 = cc in absurd (omega arith)
 hit e (r ∷ rs) i j h = hit-turn e r rs i (eqList e r) j refl (hit e rs (suc i) j) h
 
-miss : (e : List ℕ) (rs : List (List ℕ)) (i : ℕ) → find (eqList e) i rs ≡ none → Miss e rs
+pub miss : (e : List ℕ) (rs : List (List ℕ)) (i : ℕ) → find (eqList e) i rs ≡ none → Miss e rs
 miss e [] i h = record { is = λ k lt q. not-suc-le-zero lt }
 miss e (r ∷ rs) i h = miss-turn e r rs i (eqList e r) refl (miss e rs (suc i)) h
 
@@ -149,10 +150,6 @@ below-stays {st} {st′} g lt = omega (arith, ap length (g .nodes), length-appen
 pub node-stays : {st st′ : State} {x : ℕ} → Grown st st′ → x < length (st .nodes) → nodeAt (st′ .nodes) x ≡ nodeAt (st .nodes) x
 node-stays {st} {st′} {x} g lt = ap (λ (l : List Node). nodeAt l x) (g .nodes) ∙ List·getD-append (st .nodes) (g .more) Bottom x lt
 
--- nodes of different numbers are different
-pub record Distinct (ns : List Node) : Type 0 where
-  pub is : (i j : ℕ) → i < length ns → j < length ns → nodeAt ns i ≡ nodeAt ns j → i ≡ j
-
 -- each node's children are below it
 pub record Rooted (ns : List Node) : Type 0 where
   pub is : (i : ℕ) → i < length ns → Under i (children (nodeAt ns i))
@@ -194,10 +191,10 @@ module _ (ns : List Node) (n : Node) where
             (subst (λ (m : Node). Under (length ns) (children m)) (sym node-last) u);
       }
 
-  absent : Miss (encode n) (map encode ns) → (i : ℕ) → i < length ns → nodeAt ns i ≡ n → ⊥
+  pub absent : Miss (encode n) (map encode ns) → (i : ℕ) → i < length ns → nodeAt ns i ≡ n → ⊥
   absent m i lt e = m .is i (omega (arith, length-map ns encode)) (getD-any (map encode ns) i [] (encode Bottom) (omega (arith, length-map ns encode)) ∙ List·getD-map encode ns i Bottom ∙ ap encode e)
 
-  distinct-more : Distinct ns → Miss (encode n) (map encode ns) → Distinct longer
+  pub distinct-more : Distinct ns → Miss (encode n) (map encode ns) → Distinct longer
   distinct-more d m =
       record {
         is = λ i j a b.
@@ -218,21 +215,21 @@ pub record Kept (n : Node) (st : State) (x : ℕ) (st′ : State) : Type 0 where
   pub distinct : Distinct (st .nodes) → Distinct (st′ .nodes)
   pub rooted : Under (length (st .nodes)) (children n) → Rooted (st .nodes) → Rooted (st′ .nodes)
 
+-- what was found is n
+pub hit-node : (n : Node) (ns : List Node) (i : ℕ) → Hit (encode n) (map encode ns) 0 i → (i < length ns) × (nodeAt ns i ≡ n)
+hit-node n ns i h =
+    let z : i ≡ i - 0 = omega arith in (
+      omega (arith, h .to, length-map ns encode),
+      encode-injective (nodeAt ns i) n
+          (sym (List·getD-map encode ns i Bottom)
+          ∙ getD-any (map encode ns) i (encode Bottom) [] (omega (arith, h .to))
+          ∙ ap (λ (k : ℕ). getD (map encode ns) k []) z ∙ h .is),
+    )
+
 kept-old : (n : Node) (st : State) (i : ℕ) → Hit (encode n) (map encode (st .nodes)) 0 i → Kept n st i st
 kept-old n st i h =
-    let lt : i < length (st .nodes) = omega (arith, h .to, length-map (st .nodes) encode) in
-    let z : i ≡ i - 0 = omega arith in
-    record {
-      grows = grown-none st;
-      below = lt;
-      node =
-          encode-injective (nodeAt (st .nodes) i) n
-          (sym (List·getD-map encode (st .nodes) i Bottom)
-          ∙ getD-any (map encode (st .nodes)) i (encode Bottom) [] (omega (arith, length-map (st .nodes) encode))
-          ∙ ap (λ (k : ℕ). getD (map encode (st .nodes)) k []) z ∙ h .is);
-      distinct = λ d. d;
-      rooted = λ u r. r;
-    }
+    let m = hit-node n (st .nodes) i h in
+    record { grows = grown-none st; below = m .0; node = m .1; distinct = λ d. d; rooted = λ u r. r }
 
 kept-new : (n : Node) (st : State) → Miss (encode n) (map encode (st .nodes)) → Kept n st (length (st .nodes)) (grown n st)
 kept-new n st m =

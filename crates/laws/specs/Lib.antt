@@ -1,2 +1,3 @@
 -- What the contracts assume and the laws show.
 pub mod Sound
+pub mod Indexed

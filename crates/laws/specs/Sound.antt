@@ -14,6 +14,10 @@ use Rattle.rules.specs.Canonicalizer.{Pass, Reader}
 use Rattle.cells.specs.Placed.{Under}
 use mathlib.Core.Option.{Option, none, some}
 
+-- nodes of different numbers are different: the store keeps equal nodes once
+pub record Distinct (ns : List Node) : Type 0 where
+  pub is : (i j : ℕ) → i < length ns → j < length ns → nodeAt ns i ≡ nodeAt ns j → i ≡ j
+
 -- "Field keys and optional keys are name numbers, each strictly ascending"
 pub record Orderly (a : Attr) : Type 0 where
   pub ascend : ascending (fieldKeys (a .fields)) ≡ true

@@ -18,12 +18,24 @@ tableWords = 11842
 abbrev pub tableLength : ℕ
 tableLength = 77378
 
--- nodes: beginnings of rows from 0 on, rows
+-- nodes: beginnings of rows from 0 on; the store's index: a link and a hash for each node, for each bucket its newest node; rows
+abbrev pub earlierAt : ℕ
+earlierAt = 4097
+
+abbrev pub hashesAt : ℕ
+hashesAt = 8193
+
+abbrev pub newestAt : ℕ
+newestAt = 12289
+
+abbrev pub buckets : ℕ
+buckets = 256
+
 abbrev pub arenaWords : ℕ
-arenaWords = 4097
+arenaWords = 12545
 
 abbrev pub arenaLength : ℕ
-arenaLength = 53249
+arenaLength = 57601
 
 -- a line of an old listing
 abbrev pub lineLength : ℕ
@@ -53,7 +65,7 @@ abbrev pub areaLength : ℕ
 areaLength = 2048
 
 abbrev pub workLength : ℕ
-workLength = 49152
+workLength = 45058
 
 -- the same slice while recheck looks for the roots that an edit reaches: the last link to each entry, for each link the one to the same entry before it
 -- and the entry that it goes from, marks of the entries reached, and these in a queue
@@ -91,6 +103,12 @@ pub record PassStated (words bits seen held : ℕ) : Type 0 where
   pub bits-at : bits ≡ bitsAt
   pub seen-at : seen ≡ seenAt
   pub held-at : held ≡ heldAt
+
+pub record IndexStated (earlier hashes newest many : ℕ) : Type 0 where
+  pub earlier-at : earlier ≡ earlierAt
+  pub hashes-at : hashes ≡ hashesAt
+  pub newest-at : newest ≡ newestAt
+  pub many-are : many ≡ buckets
 
 pub record LinksStated (next from marks queue : ℕ) : Type 0 where
   pub next-at : next ≡ nextAt

@@ -1,7 +1,7 @@
 // What lies where in the lent slices, and how long each of them is. Nothing else knows: a length that changes is changed here, and in
 // specs/Layout.antt, which has the same numbers for the contracts.
 ghost use mathlib.Core.Path.{_≡_};
-ghost use Rattle.layout.specs.Layout.{areaLength, headsAt, negatedAt, TableStated, PassStated, LinksStated, OthersStated, LengthsStated};
+ghost use Rattle.layout.specs.Layout.{areaLength, headsAt, negatedAt, TableStated, PassStated, IndexStated, LinksStated, OthersStated, LengthsStated};
 
 // A table that was read: for each entry its representative, whether it is marked, and whether the pass preserves it; then where each line's
 // row begins, and the rows. A row's beginning is a place of the slice.
@@ -19,13 +19,23 @@ impl TableSlice {
     pub const LENGTH: usize = 77378;
 }
 
-// The nodes of a pass: where each node's row begins, and where the last ends; then the rows. An index of the store would lie after them.
+// The nodes of a pass: where each node's row begins, and where the last ends; the store's index; then the rows. In the index NEWEST has for each
+// bucket the place of its newest node's link, or 0, and EARLIER has the links: for each node the place of the link of the newest before it of the
+// same bucket, or 0. HASHES has the hash of each node's row.
 pub struct ArenaSlice {}
 
 impl ArenaSlice {
-    pub const WORDS: u32 = 4097;
+    pub const EARLIER: u32 = 4097;
 
-    pub const LENGTH: usize = 53249;
+    pub const HASHES: u32 = 8193;
+
+    pub const NEWEST: u32 = 12289;
+
+    pub const BUCKETS: u32 = 256;
+
+    pub const WORDS: u32 = 12545;
+
+    pub const LENGTH: usize = 57601;
     // recheck reads the lines of the old listing into it, one at a time, before any run
     pub const LINE: usize = 65536;
 }
@@ -49,7 +59,7 @@ impl WorkSlice {
     // a merge holds its fields in one of two areas of this length, a key and a type each
     pub const AREA: u32 = 2048;
 
-    pub const LENGTH: usize = 49152;
+    pub const LENGTH: usize = 45058;
 }
 
 // The same slice while a root's lines are written: each node's number in the listing and 1, and from ORDER on the nodes by their numbers.
@@ -95,6 +105,7 @@ impl DraftSlice {
 pub fn stated()
     ensures table { λ _. do ⌜ TableStated (← ⟦TableSlice::MARKS⟧ .entry) (← ⟦TableSlice::PRESERVED⟧ .entry) (← ⟦TableSlice::ROWS⟧ .entry) (← ⟦TableSlice::WORDS⟧ .entry) ⌝ }
     ensures pass { λ _. do ⌜ PassStated (← ⟦ArenaSlice::WORDS⟧ .entry) (← ⟦WorkSlice::BITS⟧ .entry) (← ⟦WorkSlice::SEEN⟧ .entry) (← ⟦WorkSlice::HELD⟧ .entry) ⌝ }
+    ensures index { λ _. do ⌜ IndexStated (← ⟦ArenaSlice::EARLIER⟧ .entry) (← ⟦ArenaSlice::HASHES⟧ .entry) (← ⟦ArenaSlice::NEWEST⟧ .entry) (← ⟦ArenaSlice::BUCKETS⟧ .entry) ⌝ }
     ensures heads { λ _. do ⌜ (← ⟦LinkSlice::HEAD⟧ .entry) ≡ headsAt ⌝ }
     ensures links { λ _. do ⌜ LinksStated (← ⟦LinkSlice::NEXT⟧ .entry) (← ⟦LinkSlice::FROM⟧ .entry) (← ⟦LinkSlice::MARKS⟧ .entry) (← ⟦LinkSlice::QUEUE⟧ .entry) ⌝ }
     ensures others { λ _. do ⌜ OthersStated (← ⟦WorkSlice::COUNTED_NODES⟧ .entry) (← ⟦WorkSlice::COUNTED_CELLS⟧ .entry) (← ⟦SpanSlice::REDONE⟧ .entry) (← ⟦ArenaSlice::LINE⟧ .entry) ⌝ }

@@ -1,3 +1,4 @@
+-- The search in the row's bucket comes to what the rules' search of all nodes comes to.
 use Rattle.lang_ty.proofs.Intern.{interned-old, interned-new}
 use borrow.Author.Needs.{needs}
 use Rattle.lang_ty.proofs.arena.intern.Statement.{statement}
@@ -13,6 +14,7 @@ pub intern-spec : {M : Type 1} → statement M
 intern-spec =
     tie.close
     (tie.spec
+    (λ c _. search needs)
     (λ c _. search needs)
     (λ c _. search needs)
     (λ c. search needs)

@@ -1,4 +1,4 @@
--- Only the place that tells where the new row ends is written; rows lie after all such places, so each stands as it did.
+-- What is written lies before the rows, so each row stands as it did.
 use Rattle.lang_ty.proofs.Intern.{kept-full, kept-over, kept-new}
 use borrow.Author.Needs.{needs}
 use Rattle.lang_ty.proofs.arena.keep.Statement.{statement}
@@ -20,6 +20,7 @@ keep-spec =
     returns
     (λ c _. search needs)
     returns-2
+    (λ c _. search needs)
     (λ c _. search needs)
     (λ c _. search needs)
     (λ c. search needs)

@@ -1,0 +1,55 @@
+-- The store's index: for each bucket its newest node, for each node the newest before it of the same bucket, and its row's hash.
+use mathlib.Core.Path.{_≡_}
+use Prim.Native.Nat.{ℕ, zero, suc, _+_, _*_, _/_, _%_, _<_}
+use mathlib.Core.List.{List, [], _∷_}
+use lib.ListN.{length, set}
+use Rattle.cells.specs.Part.{cell, part}
+use Rattle.layout.specs.Layout.{earlierAt, hashesAt, newestAt, buckets}
+use Rattle.rules.specs.Ceilings.{mostNodes}
+use Rattle.rules.specs.Types.{Node, encode, nodeAt}
+use Rattle.laws.specs.Indexed.{bucketAt, newest}
+
+-- one more word in a hash of 32 bits
+abbrev pub mixed : ℕ → ℕ → ℕ
+mixed h x = (h + x) * 1640531527 % 4294967296
+
+abbrev pub hashFrom : ℕ → List ℕ → ℕ
+hashFrom h [] = h
+hashFrom h (x ∷ xs) = hashFrom (mixed h x) xs
+
+unfoldable pub hash : List ℕ → ℕ
+hash row = hashFrom 0 row
+
+-- a bucket for each 8 bits that a hash may begin with
+abbrev pub bucketOf : ℕ → ℕ
+bucketOf h = h / 16777216
+
+abbrev pub bucket : List ℕ → ℕ
+bucket row = bucketOf (hash row)
+
+-- a node is told by the place of its link; here by its number and 1, where 0 is none
+abbrev pub linkOf : ℕ → ℕ
+linkOf zero = 0
+linkOf (suc x) = earlierAt + x
+
+-- a bucket's links list the nodes of that hash, newest first
+pub record Indexed (w : List ℕ) (ns : List Node) : Type 0 where
+  pub newest-of : (b : ℕ) → b < buckets → cell w (newestAt + b) ≡ linkOf (newest (bucketAt bucket ns) b (length ns))
+  pub earlier-of : (x : ℕ) → x < length ns → cell w (earlierAt + x) ≡ linkOf (newest (bucketAt bucket ns) (bucketAt bucket ns x) x)
+  pub hash-of : (x : ℕ) → x < length ns → cell w (hashesAt + x) ≡ hash (encode (nodeAt ns x))
+
+pub record Mixed (h x r : ℕ) : Type 0 where
+  pub is : r ≡ mixed h x
+
+pub record Hashed (w : List ℕ) (a n r : ℕ) : Type 0 where
+  pub is : r ≡ hash (part w a n)
+
+pub record BucketPlace (h r : ℕ) : Type 0 where
+  pub is : r ≡ newestAt + bucketOf h
+
+pub record Newest (w : List ℕ) (h r : ℕ) : Type 0 where
+  pub is : r ≡ cell w (newestAt + bucketOf h)
+
+pub record Linked (w : List ℕ) (h x : ℕ) (w′ : List ℕ) : Type 0 where
+  pub is : x < mostNodes
+      → w′ ≡ set (set (set w (earlierAt + x) (cell w (newestAt + bucketOf h))) (hashesAt + x) h) (newestAt + bucketOf h) (linkOf (suc x))
