@@ -6,8 +6,9 @@ use std::time::Duration;
 use oracle::{gen, listing, reader, RootAnswer, Table};
 
 use super::clock::{median, ratio, time, told, RUNS};
+use super::libraries::{self, Each};
 use super::parts::joined;
-use crate::calls::{Canon, OUTPUT};
+use crate::calls::{Canon, Library, OUTPUT};
 use crate::report::rows::{print_heads, print_row};
 
 const SIZES: [usize; 3] = [50, 500, 2_000];
@@ -17,7 +18,7 @@ const TABLES: u64 = 3;
 /// Medians of one table.
 struct Times {
     roots: usize,
-    ours: Duration,
+    ours: Each<Duration>,
     whole: Duration,
     run: Duration,
 }
@@ -41,7 +42,7 @@ pub fn run() {
 }
 
 fn table(single: bool) {
-    print_heads(&[
+    let heads = [
         "profile",
         "entries",
         "roots",
@@ -50,7 +51,9 @@ fn table(single: bool) {
         "Rust, run only",
         "ours / Rust",
         "ours / run only",
-    ]);
+    ];
+    let earlier = libraries::heads(["before", "ours / before"]);
+    print_heads(&[&heads[..], &earlier].concat());
     let mut canon = Canon::new();
     for size in SIZES {
         let mut all = Vec::new();
@@ -74,15 +77,12 @@ fn row(name: &str, size: usize, times: &[Times]) {
     if roots == 0 {
         return;
     }
-    let per_root = |time: fn(&Times) -> Duration| {
+    let per_root = |time: &dyn Fn(&Times) -> Duration| {
         let sum: Duration = times.iter().map(time).sum();
         sum / roots as u32
     };
-    let (ours, whole, run) = (
-        per_root(|t| t.ours),
-        per_root(|t| t.whole),
-        per_root(|t| t.run),
-    );
+    let each: Each<Duration> = std::array::from_fn(|i| per_root(&|t| t.ours[i]));
+    let (ours, whole, run) = (each[0], per_root(&|t| t.whole), per_root(&|t| t.run));
     let cells = [
         size.to_string(),
         roots.to_string(),
@@ -92,34 +92,38 @@ fn row(name: &str, size: usize, times: &[Times]) {
         ratio(ours, whole),
         ratio(ours, run),
     ];
-    print_row(name, cells);
+    print_row(name, cells.into_iter().chain(libraries::cells(each)));
 }
 
-/// Ours and theirs in turn, so that a busy machine slows both.
+/// Ours and theirs in turn, so that a busy machine slows all. Each library comes
+/// after the Rust, so that none finds its memory warmer than another.
 fn measure(canon: &mut Canon, table: &Table) -> Option<Times> {
     let text = table.to_text();
     let mut out = vec![0; OUTPUT];
     // Once beforehand; a table that is refused is left out, and the text that
     // is timed answers as the oracle does.
-    canon.bare(&text, &mut out).ok()?;
+    libraries::listing(canon, &text)?;
     let written = |answers: Vec<RootAnswer>| listing::write(&answers);
     let theirs = oracle::answers_of(table).ok().map(written);
     assert_eq!(timed::answers(table).map(written), theirs);
-    let (mut ours, mut whole, mut run) = (Vec::new(), Vec::new(), Vec::new());
+    let mut ours = Each::<Vec<Duration>>::default();
+    let (mut whole, mut run) = (Vec::new(), Vec::new());
     for _ in 0..RUNS {
-        ours.push(time(|| {
-            let _ = black_box(canon.bare(black_box(&text), &mut out));
-        }));
-        whole.push(time(|| {
-            let _ = black_box(rust_listing(black_box(&text)));
-        }));
-        run.push(time(|| {
-            let _ = black_box(timed::answers(black_box(table)));
-        }));
+        for (library, ours) in Library::ALL.into_iter().zip(&mut ours) {
+            ours.push(time(|| {
+                let _ = black_box(canon.bare_of(library, black_box(&text), &mut out));
+            }));
+            whole.push(time(|| {
+                let _ = black_box(rust_listing(black_box(&text)));
+            }));
+            run.push(time(|| {
+                let _ = black_box(timed::answers(black_box(table)));
+            }));
+        }
     }
     Some(Times {
         roots: table.roots.len(),
-        ours: median(ours),
+        ours: ours.map(median),
         whole: median(whole),
         run: median(run),
     })

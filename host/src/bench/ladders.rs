@@ -8,7 +8,8 @@ use oracle::{listing, reader, Answer, Table};
 
 use super::beside::rust_listing;
 use super::clock::{median, ratio, time, told, RUNS};
-use crate::calls::{Canon, OUTPUT};
+use super::libraries::{self, Each};
+use crate::calls::{Canon, Library, OUTPUT};
 use crate::input::ladders::ladder;
 use crate::report::rows::{print_heads, print_row};
 
@@ -17,7 +18,7 @@ const LEVELS: [u32; 5] = [5, 10, 20, 30, 46];
 
 /// Medians of one ladder.
 struct Times {
-    ours: Duration,
+    ours: Each<Duration>,
     /// The same table without its root: reading it, and wiping the scratch.
     rootless: Duration,
     /// Where it returns.
@@ -27,7 +28,7 @@ struct Times {
 pub fn run() {
     println!("Processor time of a call on a ladder, medians of {RUNS} runs:");
     println!();
-    print_heads(&[
+    let heads = [
         "levels",
         "entries",
         "nodes",
@@ -36,7 +37,9 @@ pub fn run() {
         "the root, per node",
         "Rust",
         "ours / Rust",
-    ]);
+    ];
+    let earlier = libraries::heads(["before", "ours / before"]);
+    print_heads(&[&heads[..], &earlier].concat());
     for levels in LEVELS {
         // The Rust needs the stack; ours is content with it.
         timed::on_large_stack(|| row(levels));
@@ -46,12 +49,11 @@ pub fn run() {
 fn row(levels: u32) {
     let text = ladder(levels);
     let table = reader::read(&text).expect("a ladder is a table");
-    let (mut canon, mut out) = (Canon::new(), vec![0; OUTPUT]);
-    let length = canon.bare(&text, &mut out).expect("its listing fits");
-    let ours = &out[..length];
+    let mut canon = Canon::new();
+    let ours = libraries::listing(&mut canon, &text).expect("its listing fits");
     let theirs = of_rust(&table);
     if theirs.is_some() {
-        assert_eq!(theirs.as_deref(), Some(ours), "ours is the Rust's listing");
+        assert_eq!(theirs.as_ref(), Some(&ours), "ours is the Rust's listing");
         assert_eq!(rust_listing(&text), theirs, "so does what is timed answer");
     }
     // Its lines but for `answers` and the root's.
@@ -59,18 +61,20 @@ fn row(levels: u32) {
     let times = measure(&mut canon, &table, theirs.is_some());
     let sizes = [table.entries.len(), nodes].map(|size| size.to_string());
     let cells = sizes.into_iter().chain(told_times(&times, nodes as u32));
+    let cells = cells.chain(libraries::cells(times.ours));
     print_row(&levels.to_string(), cells);
 }
 
 fn told_times(times: &Times, nodes: u32) -> [String; 5] {
-    let of_root = times.ours.saturating_sub(times.rootless);
+    let ours = times.ours[0];
+    let of_root = ours.saturating_sub(times.rootless);
     let (rust, beside) = match times.rust {
-        Some(rust) => (told(rust), ratio(times.ours, rust)),
+        Some(rust) => (told(rust), ratio(ours, rust)),
         None if oracle::text_at_hand() => ("too long".to_string(), "-".to_string()),
         None => ("-".to_string(), "-".to_string()),
     };
     [
-        told(times.ours),
+        told(ours),
         told(times.rootless),
         format!("{} ns", (of_root / nodes).as_nanos()),
         rust,
@@ -94,21 +98,25 @@ fn measure(canon: &mut Canon, table: &Table, returns: bool) -> Times {
     rootless_table.roots.clear();
     let rootless_text = rootless_table.to_text();
     let mut out = vec![0; OUTPUT];
-    let (mut ours, mut rootless, mut rust) = (Vec::new(), Vec::new(), Vec::new());
+    let mut ours = Each::<Vec<Duration>>::default();
+    let (mut rootless, mut rust) = (Vec::new(), Vec::new());
     for _ in 0..RUNS {
-        for (text, times) in [(&text, &mut ours), (&rootless_text, &mut rootless)] {
-            times.push(time(|| {
-                let _ = black_box(canon.bare(black_box(text), &mut out));
+        for (library, ours) in Library::ALL.into_iter().zip(&mut ours) {
+            ours.push(time(|| {
+                let _ = black_box(canon.bare_of(library, black_box(&text), &mut out));
             }));
-        }
-        if returns {
-            rust.push(time(|| {
-                let _ = black_box(rust_listing(black_box(&text)));
+            rootless.push(time(|| {
+                let _ = black_box(canon.bare(black_box(&rootless_text), &mut out));
             }));
+            if returns {
+                rust.push(time(|| {
+                    let _ = black_box(rust_listing(black_box(&text)));
+                }));
+            }
         }
     }
     Times {
-        ours: median(ours),
+        ours: ours.map(median),
         rootless: median(rootless),
         rust: returns.then(|| median(rust)),
     }

@@ -1,9 +1,11 @@
 //! Our time per root beside the Rust's on the same tables, and on ladders;
-//! recheck's beside canon's.
+//! recheck's beside canon's. Where an earlier library is linked, its time
+//! beside ours too.
 
 mod beside;
 mod clock;
 mod ladders;
+mod libraries;
 mod parts;
 mod processes;
 mod touched;

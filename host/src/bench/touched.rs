@@ -8,8 +8,9 @@ use oracle::table::Entry;
 use oracle::{gen, reader, Table};
 
 use super::clock::{median, ratio, time, told, RUNS};
+use super::libraries::{self, Each};
 use super::parts::joined;
-use crate::calls::{Canon, Input, Recheck, OUTPUT};
+use crate::calls::{Canon, Input, Library, Recheck, OUTPUT};
 use crate::input::draft::Draft;
 use crate::recheck::model;
 use crate::report::rows::{print_heads, print_row};
@@ -19,7 +20,7 @@ const TOUCHED: [usize; 5] = [0, 1, 8, 32, 64];
 pub fn run() {
     println!("Processor time of a call, medians of {RUNS} runs, with 64 roots:");
     println!();
-    print_heads(&[
+    let heads = [
         "table",
         "entries",
         "bytes",
@@ -28,7 +29,10 @@ pub fn run() {
         "canon",
         "recheck",
         "recheck / canon",
-    ]);
+    ];
+    let canon = libraries::heads(["canon before", "canon / before"]);
+    let recheck = libraries::heads(["recheck before", "recheck / before"]);
+    print_heads(&[&heads[..], &canon, &recheck].concat());
     let parts = gen::profile("dense").and_then(|profile| joined(profile, 2_000, 0, false));
     for (name, table) in [("small parts", parts), ("a common core", core())] {
         let Some(table) = table else { continue };
@@ -40,32 +44,53 @@ pub fn run() {
 
 fn row(name: &str, new: &Table, most: usize) {
     let (old, redone) = touching(new, most);
-    let mut out = vec![0; OUTPUT];
     let (mut canon, mut recheck) = (Canon::new(), Recheck::new());
-    let text = new.to_text();
-    let input = Input {
-        listing: match canon.bare(&old.to_text(), &mut out) {
-            Ok(length) => out[..length].to_vec(),
-            Err(_) => return,
-        },
-        old: old.to_text(),
-        new: text.clone(),
+    let (old, new_text) = (old.to_text(), new.to_text());
+    let Some(listing) = libraries::listing(&mut canon, &old) else {
+        return;
     };
-    assert!(recheck.bare(&input, &mut out).is_ok(), "the text fits");
-    let (mut afresh, mut again) = (Vec::new(), Vec::new());
-    for _ in 0..RUNS {
-        afresh.push(time(|| {
-            let _ = black_box(canon.bare(black_box(&text), &mut out));
-        }));
-        again.push(time(|| {
-            let _ = black_box(recheck.bare(black_box(&input), &mut out));
-        }));
-    }
-    let (afresh, again): (Duration, Duration) = (median(afresh), median(again));
-    let sizes = [new.entries.len(), text.len(), input.listing.len(), redone];
-    let times = [told(afresh), told(again), ratio(again, afresh)];
+    let input = Input {
+        old,
+        new: new_text,
+        listing,
+    };
+    let sizes = [
+        new.entries.len(),
+        input.new.len(),
+        input.listing.len(),
+        redone,
+    ];
+    let (afresh, again) = measure(&mut canon, &mut recheck, &input);
+    let times = [told(afresh[0]), told(again[0]), ratio(again[0], afresh[0])];
     let sizes = sizes.into_iter().map(|size| size.to_string());
-    print_row(name, sizes.chain(times));
+    let earlier = [afresh, again].into_iter().flat_map(libraries::cells);
+    print_row(name, sizes.chain(times).chain(earlier));
+}
+
+/// canon and recheck in turn, so that a busy machine slows all.
+fn measure(
+    canon: &mut Canon,
+    recheck: &mut Recheck,
+    input: &Input,
+) -> (Each<Duration>, Each<Duration>) {
+    let written = libraries::written(|library, out| recheck.bare_of(library, input, out));
+    assert!(written.is_some(), "the text fits");
+    let fresh = libraries::listing(canon, &input.new);
+    assert!(fresh.is_some(), "the listing fits");
+    let mut out = vec![0; OUTPUT];
+    let (mut afresh, mut again) = <(Each<Vec<Duration>>, Each<Vec<Duration>>)>::default();
+    for _ in 0..RUNS {
+        let times = afresh.iter_mut().zip(&mut again);
+        for (library, (afresh, again)) in Library::ALL.into_iter().zip(times) {
+            afresh.push(time(|| {
+                let _ = black_box(canon.bare_of(library, black_box(&input.new), &mut out));
+            }));
+            again.push(time(|| {
+                let _ = black_box(recheck.bare_of(library, black_box(input), &mut out));
+            }));
+        }
+    }
+    (afresh.map(median), again.map(median))
 }
 
 /// An old table that differs in the entries of roots, so that at most so many

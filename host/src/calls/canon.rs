@@ -2,6 +2,9 @@
 
 use pekonusit::{lengths, raw};
 
+#[cfg(before)]
+use super::before;
+use super::library::Library;
 use super::outcome::{of_any_call, outcome, refused, Outcome};
 use super::scratch::{Checked, Scratch, Slice};
 
@@ -26,7 +29,8 @@ impl Canon {
 
     /// The listing of a table.
     pub fn canon(&mut self, text: &[u8], out: &mut [u8]) -> Checked {
-        let call = |scratch: &mut Scratch<4>, out: &mut [u8]| canon(scratch, text, out);
+        let call =
+            |scratch: &mut Scratch<4>, out: &mut [u8]| canon(Library::Ours, scratch, text, out);
         self.scratch.checked(out, call, of_any_call)
     }
 
@@ -44,11 +48,21 @@ impl Canon {
 
     /// The call alone, for timing and for the stack.
     pub fn bare(&mut self, text: &[u8], out: &mut [u8]) -> Outcome {
-        canon(&mut self.scratch, text, out)
+        self.bare_of(Library::Ours, text, out)
+    }
+
+    pub fn bare_of(&mut self, library: Library, text: &[u8], out: &mut [u8]) -> Outcome {
+        canon(library, &mut self.scratch, text, out)
     }
 }
 
-fn canon(scratch: &mut Scratch<4>, text: &[u8], out: &mut [u8]) -> Outcome {
+fn canon(library: Library, scratch: &mut Scratch<4>, text: &[u8], out: &mut [u8]) -> Outcome {
     let (draft, [table, arena, work]) = scratch.slices();
-    outcome(raw::canon(text, out, draft, table, arena, work))
+    outcome(match library {
+        Library::Ours => raw::canon(text, out, draft, table, arena, work),
+        #[cfg(before)]
+        Library::Before => {
+            before::canon(text, out, draft, table, before::asked(arena), work).into()
+        }
+    })
 }

@@ -2,6 +2,9 @@
 
 use pekonusit::{lengths, raw};
 
+#[cfg(before)]
+use super::before;
+use super::library::Library;
 use super::outcome::{of_any_call, outcome, Outcome, Refused};
 use super::scratch::{Checked, Scratch, Slice};
 
@@ -43,7 +46,8 @@ impl Recheck {
 
     /// The listing of the new table, with the roots that are kept or redone.
     pub fn recheck(&mut self, input: &Input, out: &mut [u8]) -> Checked {
-        let call = |scratch: &mut Scratch<5>, out: &mut [u8]| recheck(scratch, input, out);
+        let call =
+            |scratch: &mut Scratch<5>, out: &mut [u8]| recheck(Library::Ours, scratch, input, out);
         let may = |refusal: Refused| match refusal.number {
             10 => refusal.line == 0,
             11 => true,
@@ -54,14 +58,22 @@ impl Recheck {
 
     /// The call alone, for timing and for the stack.
     pub fn bare(&mut self, input: &Input, out: &mut [u8]) -> Outcome {
-        recheck(&mut self.scratch, input, out)
+        self.bare_of(Library::Ours, input, out)
+    }
+
+    pub fn bare_of(&mut self, library: Library, input: &Input, out: &mut [u8]) -> Outcome {
+        recheck(library, &mut self.scratch, input, out)
     }
 }
 
-fn recheck(scratch: &mut Scratch<5>, input: &Input, out: &mut [u8]) -> Outcome {
+fn recheck(library: Library, scratch: &mut Scratch<5>, input: &Input, out: &mut [u8]) -> Outcome {
     let Input { old, new, listing } = input;
-    let (draft, [before, table, arena, work]) = scratch.slices();
-    outcome(raw::recheck(
-        old, new, listing, out, draft, before, table, arena, work,
-    ))
+    let (draft, [older, table, arena, work]) = scratch.slices();
+    outcome(match library {
+        Library::Ours => raw::recheck(old, new, listing, out, draft, older, table, arena, work),
+        #[cfg(before)]
+        Library::Before => {
+            before::recheck(old, new, listing, out, draft, older, table, arena, work).into()
+        }
+    })
 }

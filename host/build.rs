@@ -1,0 +1,75 @@
+//! With BEFORE_DIR set, links the static library of an earlier commit too, its
+//! exports under other names, so that `host bench` times both in one process.
+
+use std::ffi::OsString;
+use std::path::{Path, PathBuf};
+use std::process::{self, Command};
+use std::{env, fs};
+
+/// Names the folder of the earlier library.
+const FOLDER: &str = "BEFORE_DIR";
+const ARCHIVE: &str = "libsignatures.a";
+/// Names another program than objcopy.
+const PROGRAM: &str = "OBJCOPY";
+/// The crate's wrapper of the exports.
+const WRAPPER: &str = "../rust/pekonusit/src/raw.rs";
+const EXPORTS: [&str; 3] = [
+    "pekonusit_canon",
+    "pekonusit_canon_root",
+    "pekonusit_recheck",
+];
+/// Either archive has one, and nothing calls it.
+const MAIN: &str = "unused_main";
+
+fn main() {
+    println!("cargo:rustc-check-cfg=cfg(before)");
+    println!("cargo:rerun-if-changed=build.rs");
+    println!("cargo:rerun-if-env-changed={FOLDER}");
+    let Some(folder) = env::var_os(FOLDER) else {
+        return;
+    };
+    if let Err(fault) = link(&PathBuf::from(folder).join(ARCHIVE)) {
+        eprintln!("host: {fault}");
+        process::exit(1)
+    }
+}
+
+fn link(archive: &Path) -> Result<(), String> {
+    println!("cargo:rerun-if-env-changed={PROGRAM}");
+    for file in [archive, Path::new(WRAPPER)] {
+        println!("cargo:rerun-if-changed={}", file.display());
+    }
+    let out = PathBuf::from(env::var_os("OUT_DIR").expect("cargo sets OUT_DIR"));
+    rename(archive, &out.join("libbefore.a"))?;
+    wrap(&out.join("before.rs"))?;
+    println!("cargo:rustc-link-search=native={}", out.display());
+    println!("cargo:rustc-link-lib=static=before");
+    println!("cargo:rustc-cfg=before");
+    Ok(())
+}
+
+fn renamed(text: &str) -> String {
+    text.replace("pekonusit_", "before_")
+}
+
+/// The archive with other names for its exports, which shows nothing else.
+fn rename(archive: &Path, to: &Path) -> Result<(), String> {
+    let program = env::var_os(PROGRAM).unwrap_or(OsString::from("objcopy"));
+    let names = EXPORTS.map(|name| format!("--redefine-sym={name}={}", renamed(name)));
+    let mut command = Command::new(&program);
+    command.args(names).arg(format!("--localize-symbol={MAIN}"));
+    match command.arg(archive).arg(to).status() {
+        Ok(status) if status.success() => Ok(()),
+        Ok(status) => Err(format!("{}: {program:?}: {status}", archive.display())),
+        Err(fault) => Err(format!("{program:?}: {fault}")),
+    }
+}
+
+/// The wrapper over those names. What is said of its file as a whole cannot
+/// stand in a text that is included.
+fn wrap(to: &Path) -> Result<(), String> {
+    let whole = fs::read_to_string(WRAPPER).map_err(|fault| format!("{WRAPPER}: {fault}"))?;
+    let lines = whole.lines().filter(|line| !line.starts_with("//!"));
+    let text: String = lines.map(|line| renamed(line) + "\n").collect();
+    fs::write(to, text).map_err(|fault| format!("{}: {fault}", to.display()))
+}
