@@ -34,6 +34,7 @@ host edges                  each refusal at its edge
 host stack                  the stack that the calls take on deep inputs
 host bench                  our time per root beside the Rust's, and recheck's
 host bench ladders          our time for ladders beside the Rust's, alone
+host bench buckets          our time for nodes of one bucket, alone
 host bench recheck          recheck's alone
 ";
 
@@ -67,6 +68,7 @@ fn job(arguments: &[&str]) -> Option<Job> {
         ["stack"] => Some(Box::new(stack::run)),
         ["bench"] => Some(Box::new(bench::run)),
         ["bench", "ladders"] => Some(Box::new(bench::laddered)),
+        ["bench", "buckets"] => Some(Box::new(bench::bucketed)),
         ["bench", "recheck"] => Some(Box::new(bench::rechecked)),
         [name, count] => counted(name, count, "0"),
         [name, count, seed] => counted(name, count, seed),

@@ -4,11 +4,10 @@
 use std::hint::black_box;
 use std::time::Duration;
 
-use oracle::{listing, reader, Answer, Table};
-
 use super::beside::rust_listing;
-use super::clock::{median, ratio, time, told, RUNS};
+use super::clock::{median, time, told, RUNS};
 use super::libraries::{self, Each};
+use super::subject::{beside_rust, Subject};
 use crate::calls::{Canon, Library, OUTPUT};
 use crate::input::ladders::ladder;
 use crate::report::rows::{print_heads, print_row};
@@ -47,54 +46,25 @@ pub fn run() {
 }
 
 fn row(levels: u32) {
-    let text = ladder(levels);
-    let table = reader::read(&text).expect("a ladder is a table");
     let mut canon = Canon::new();
-    let ours = libraries::listing(&mut canon, &text).expect("its listing fits");
-    let theirs = of_rust(&table);
-    if theirs.is_some() {
-        assert_eq!(theirs.as_ref(), Some(&ours), "ours is the Rust's listing");
-        assert_eq!(rust_listing(&text), theirs, "so does what is timed answer");
-    }
-    // Its lines but for `answers` and the root's.
-    let nodes = ours.split(|&b| b == b'\n').count() - 3;
-    let times = measure(&mut canon, &table, theirs.is_some());
-    let sizes = [table.entries.len(), nodes].map(|size| size.to_string());
-    let cells = sizes.into_iter().chain(told_times(&times, nodes as u32));
+    let ladder = Subject::new(&mut canon, ladder(levels));
+    let times = measure(&mut canon, &ladder);
+    let ours = times.ours[0];
+    let of_root = ours.saturating_sub(times.rootless) / ladder.nodes as u32;
+    let told_times = [
+        told(ours),
+        told(times.rootless),
+        format!("{} ns", of_root.as_nanos()),
+    ];
+    let cells = ladder.sizes().into_iter().chain(told_times);
+    let cells = cells.chain(beside_rust(ours, times.rust));
     let cells = cells.chain(libraries::cells(times.ours));
     print_row(&levels.to_string(), cells);
 }
 
-fn told_times(times: &Times, nodes: u32) -> [String; 5] {
-    let ours = times.ours[0];
-    let of_root = ours.saturating_sub(times.rootless);
-    let (rust, beside) = match times.rust {
-        Some(rust) => (told(rust), ratio(ours, rust)),
-        None if oracle::text_at_hand() => ("too long".to_string(), "-".to_string()),
-        None => ("-".to_string(), "-".to_string()),
-    };
-    [
-        told(ours),
-        told(times.rootless),
-        format!("{} ns", (of_root / nodes).as_nanos()),
-        rust,
-        beside,
-    ]
-}
-
-/// The Rust's listing where the oracle says that it returns: the text that is
-/// timed has no limit.
-fn of_rust(table: &Table) -> Option<Vec<u8>> {
-    let answers = oracle::answers_of(table).ok()?;
-    let mut roots = answers.iter();
-    let returns = roots.all(|root| matches!(root.answer, Answer::Shown(_)));
-    returns.then(|| listing::write(&answers))
-}
-
 /// In turn, so that a busy machine slows all.
-fn measure(canon: &mut Canon, table: &Table, returns: bool) -> Times {
-    let text = table.to_text();
-    let mut rootless_table = table.clone();
+fn measure(canon: &mut Canon, ladder: &Subject) -> Times {
+    let mut rootless_table = ladder.table.clone();
     rootless_table.roots.clear();
     let rootless_text = rootless_table.to_text();
     let mut out = vec![0; OUTPUT];
@@ -103,14 +73,14 @@ fn measure(canon: &mut Canon, table: &Table, returns: bool) -> Times {
     for _ in 0..RUNS {
         for (library, ours) in Library::ALL.into_iter().zip(&mut ours) {
             ours.push(time(|| {
-                let _ = black_box(canon.bare_of(library, black_box(&text), &mut out));
+                let _ = black_box(canon.bare_of(library, black_box(&ladder.text), &mut out));
             }));
             rootless.push(time(|| {
                 let _ = black_box(canon.bare(black_box(&rootless_text), &mut out));
             }));
-            if returns {
+            if ladder.returns {
                 rust.push(time(|| {
-                    let _ = black_box(rust_listing(black_box(&text)));
+                    let _ = black_box(rust_listing(black_box(&ladder.text)));
                 }));
             }
         }
@@ -118,6 +88,6 @@ fn measure(canon: &mut Canon, table: &Table, returns: bool) -> Times {
     Times {
         ours: ours.map(median),
         rootless: median(rootless),
-        rust: returns.then(|| median(rust)),
+        rust: ladder.returns.then(|| median(rust)),
     }
 }

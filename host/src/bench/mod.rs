@@ -1,13 +1,15 @@
-//! Our time per root beside the Rust's on the same tables, and on ladders;
-//! recheck's beside canon's. Where an earlier library is linked, its time
-//! beside ours too.
+//! Our time per root beside the Rust's on the same tables, on ladders, and on
+//! nodes of one bucket; recheck's beside canon's. Where an earlier library is
+//! linked, its time beside ours too.
 
 mod beside;
+mod buckets;
 mod clock;
 mod ladders;
 mod libraries;
 mod parts;
 mod processes;
+mod subject;
 mod touched;
 
 use crate::report::Tally;
@@ -17,12 +19,20 @@ pub fn run() -> Tally {
     println!();
     ladders::run();
     println!();
+    buckets::run();
+    println!();
     rechecked()
 }
 
 /// The part of ladders alone.
 pub fn laddered() -> Tally {
     ladders::run();
+    Tally::default()
+}
+
+/// The part of buckets alone.
+pub fn bucketed() -> Tally {
+    buckets::run();
     Tally::default()
 }
 

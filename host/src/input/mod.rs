@@ -1,5 +1,6 @@
 //! What is given to the calls: tables and listings, made and changed.
 
+pub mod buckets;
 pub mod changes;
 pub mod draft;
 pub mod edits;
