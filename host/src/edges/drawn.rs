@@ -23,7 +23,7 @@ pub fn drawn(edges: &mut Edges) {
 
 /// A table with the Rust's listing, if it returns and has sorted no members,
 /// whose order is none of the text's.
-fn answered(text: Vec<u8>) -> Option<(Vec<u8>, Vec<u8>)> {
+pub fn answered(text: Vec<u8>) -> Option<(Vec<u8>, Vec<u8>)> {
     let answers = oracle::answers(&text).ok()?;
     let told = |answer: &Answer| matches!(answer, Answer::Shown(shown) if !shown.sorted);
     let all = answers.iter().all(|root| told(&root.answer));

@@ -8,6 +8,7 @@ mod confirm;
 mod drawn;
 mod edge;
 mod form;
+mod index;
 mod keys;
 mod ladders;
 mod members;
@@ -19,6 +20,7 @@ mod recheck;
 mod scratch;
 mod single;
 mod texts;
+mod worked;
 
 use crate::calls::Canon;
 use crate::lines;
@@ -28,7 +30,7 @@ use confirm::confirm;
 use edge::{Edge, Edges, Expect};
 
 /// The edges of canon, by their subject.
-const SUBJECTS: [fn(&mut Edges); 17] = [
+const SUBJECTS: [fn(&mut Edges); 18] = [
     ceilings::text_length,
     ceilings::ceilings,
     form::form,
@@ -44,6 +46,7 @@ const SUBJECTS: [fn(&mut Edges); 17] = [
     nodes::orders_of_limits,
     nodes::after_a_large_root,
     ladders::ladders,
+    index::index,
     drawn::drawn,
     outputs::outputs,
 ];

@@ -3,6 +3,7 @@
 use oracle::rng::Rng;
 
 use super::check::{refused_with, writes};
+use super::index::one_bucket;
 use super::ladders;
 use super::texts::{k1, K1_LISTING};
 use crate::calls::{Canon, OUTPUT};
@@ -21,10 +22,12 @@ pub fn soiled(canon: &mut Canon, tally: &mut Tally) {
     // As K1: the list is of one id, and is visited once. In the negative place
     // the first pass falls back to it.
     let listing = "answers>1\nroot>2>+>2>9>0>0>4\n0>tyvar>1\n1>prim>0\n2>union>0,1\n3>fn>0>2\n";
+    let (bucket, bucket_listing) = one_bucket();
     for (name, text, listing) in [
         ("K1", k1(), K1_LISTING),
         ("17 bounds", draft.text(), listing),
         ("46 levels", ladder(46), &ladders::listing(46)),
+        ("one bucket", bucket, &bucket_listing),
     ] {
         for all in [false, true] {
             let mut out = vec![0xa5; OUTPUT];

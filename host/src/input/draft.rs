@@ -64,8 +64,18 @@ impl Draft {
 
     /// A closed set; its keys are 0 upward.
     pub fn set(&mut self, fields: &[u32], optional: &[u32]) -> u32 {
+        let fields = (0..).zip(fields.iter().copied()).collect();
+        self.closed(fields, optional)
+    }
+
+    /// A closed set of keys with their types.
+    pub fn set_of(&mut self, fields: &[(u32, u32)]) -> u32 {
+        self.closed(fields.to_vec(), &[])
+    }
+
+    fn closed(&mut self, fields: Vec<(u32, u32)>, optional: &[u32]) -> u32 {
         self.entry(Entry::Set(Set {
-            fields: (0..).zip(fields.iter().copied()).collect(),
+            fields,
             dyn_ty: None,
             open: false,
             optional: optional.to_vec(),

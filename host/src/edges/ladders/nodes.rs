@@ -1,21 +1,8 @@
 //! The listing of a negated ladder, worked out level by level.
 
-/// The nodes of a root in the order of the walk. One that is there already
-/// keeps its number.
-#[derive(Default)]
-pub struct Nodes {
-    lines: Vec<String>,
-}
+use crate::edges::worked::Nodes;
 
 impl Nodes {
-    pub fn node(&mut self, line: String) -> usize {
-        let known = self.lines.iter().position(|known| *known == line);
-        known.unwrap_or_else(|| {
-            self.lines.push(line);
-            self.lines.len() - 1
-        })
-    }
-
     fn of_two(&mut self, kind: &str, a: usize, b: usize) -> usize {
         self.node(format!("{kind}>{a},{b}"))
     }
@@ -58,15 +45,6 @@ impl Nodes {
             let [a, b] = sides.map(|side| self.of_two("inter", side, below));
             self.of_two("union", a, b)
         })
-    }
-
-    /// The lines of a root of one pass and without marks.
-    pub fn root(self, id: u32, operations: u32) -> String {
-        let mut text = format!("root>{id}>+>1>{operations}>0>0>{}\n", self.lines.len());
-        for (number, line) in self.lines.iter().enumerate() {
-            text.push_str(&format!("{number}>{line}\n"));
-        }
-        text
     }
 }
 

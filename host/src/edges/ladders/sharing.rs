@@ -1,10 +1,11 @@
 //! Several negations of ladders that share their parts: what one of them has
 //! negated is right for the others, or is none of theirs.
 
-use super::nodes::{root, visits, Nodes};
+use super::nodes::{root, visits};
 use super::{add, MOST};
 use crate::calls::OUTPUT;
 use crate::edges::edge::{Edges, Expect};
+use crate::edges::worked::Nodes;
 use crate::input::draft::{tabs, Draft};
 use crate::input::ladders::{begun, LOWEST, SIDES};
 

@@ -42,6 +42,15 @@ impl Edges<'_> {
         self.tally.take(&name, refused_with(outcome, 12, 0));
     }
 
+    /// The one root is run again, whatever the old listing has of it.
+    pub fn redone(&mut self, name: &str, input: &Input, listing: &[u8]) {
+        let text = [&b"redone\n"[..], listing].concat();
+        let mut out = vec![0xa5; text.len()];
+        watch::begin(&input.text());
+        let outcome = self.recheck.recheck(input, &mut out);
+        self.tally.take(name, writes(outcome, &out, &text));
+    }
+
     /// A listing of the one root of a table with two names; refused at a line,
     /// or kept.
     pub fn listing(&mut self, listing: &str, line: Option<u32>) {

@@ -2,11 +2,9 @@
 
 use super::edge::Edges;
 use crate::calls::Input;
-use crate::edges::check::writes;
 use crate::edges::ladders::listing;
 use crate::input::draft::tabs;
 use crate::input::ladders::ladder;
-use crate::report::watch;
 
 const LEVELS: u32 = 46;
 
@@ -26,11 +24,5 @@ pub fn ladders(edges: &mut Edges) {
         new,
         listing: tabs("answers>1\nrefused>142>+>6\n"),
     };
-    let text = [&b"redone\n"[..], &listing].concat();
-    let mut out = vec![0xa5; text.len()];
-    watch::begin(&redone.text());
-    let outcome = edges.recheck.recheck(&redone, &mut out);
-    edges
-        .tally
-        .take("a ladder redone", writes(outcome, &out, &text));
+    edges.redone("a ladder redone", &redone, &listing);
 }

@@ -2,6 +2,7 @@
 //! against the model of recheck too.
 
 mod edge;
+mod index;
 mod ladders;
 mod lengths;
 mod listing;
@@ -23,6 +24,7 @@ pub fn run(tally: &mut Tally) {
     tables::differing_lines(&mut edges);
     tables::orders(&mut edges);
     ladders::ladders(&mut edges);
+    index::index(&mut edges);
     lengths::listings(&mut edges);
     lengths::short_scratch(&mut edges);
 }
