@@ -18,8 +18,6 @@ const EXPORTS: [&str; 3] = [
     "pekonusit_canon_root",
     "pekonusit_recheck",
 ];
-/// Either archive has one, and nothing calls it.
-const MAIN: &str = "unused_main";
 
 fn main() {
     println!("cargo:rustc-check-cfg=cfg(before)");
@@ -57,8 +55,7 @@ fn rename(archive: &Path, to: &Path) -> Result<(), String> {
     let program = env::var_os(PROGRAM).unwrap_or(OsString::from("objcopy"));
     let names = EXPORTS.map(|name| format!("--redefine-sym={name}={}", renamed(name)));
     let mut command = Command::new(&program);
-    command.args(names).arg(format!("--localize-symbol={MAIN}"));
-    match command.arg(archive).arg(to).status() {
+    match command.args(names).arg(archive).arg(to).status() {
         Ok(status) if status.success() => Ok(()),
         Ok(status) => Err(format!("{}: {program:?}: {status}", archive.display())),
         Err(fault) => Err(format!("{program:?}: {fault}")),

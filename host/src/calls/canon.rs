@@ -57,12 +57,15 @@ impl Canon {
 }
 
 fn canon(library: Library, scratch: &mut Scratch<4>, text: &[u8], out: &mut [u8]) -> Outcome {
-    let (draft, [table, arena, work]) = scratch.slices();
     outcome(match library {
-        Library::Ours => raw::canon(text, out, draft, table, arena, work),
+        Library::Ours => {
+            let (draft, [table, arena, work]) = scratch.slices();
+            raw::canon(text, out, draft, table, arena, work)
+        }
         #[cfg(before)]
         Library::Before => {
-            before::canon(text, out, draft, table, before::asked(arena), work).into()
+            let (draft, [table, arena, work]) = scratch.slices_of(before::asked_by_canon());
+            before::canon(text, out, draft, table, arena, work).into()
         }
     })
 }

@@ -68,11 +68,15 @@ impl Recheck {
 
 fn recheck(library: Library, scratch: &mut Scratch<5>, input: &Input, out: &mut [u8]) -> Outcome {
     let Input { old, new, listing } = input;
-    let (draft, [older, table, arena, work]) = scratch.slices();
     outcome(match library {
-        Library::Ours => raw::recheck(old, new, listing, out, draft, older, table, arena, work),
+        Library::Ours => {
+            let (draft, [older, table, arena, work]) = scratch.slices();
+            raw::recheck(old, new, listing, out, draft, older, table, arena, work)
+        }
         #[cfg(before)]
         Library::Before => {
+            let (draft, [older, table, arena, work]) =
+                scratch.slices_of(before::asked_by_recheck());
             before::recheck(old, new, listing, out, draft, older, table, arena, work).into()
         }
     })

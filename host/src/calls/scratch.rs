@@ -38,13 +38,22 @@ pub struct Counts {
     pub odd: u64,
 }
 
+/// How much of a slice there is to lend.
+fn held(slice: Slice) -> usize {
+    #[cfg(before)]
+    let stated = slice.1.max(super::before::LONGEST);
+    #[cfg(not(before))]
+    let stated = slice.1;
+    stated + SPARE
+}
+
 impl<const N: usize> Scratch<N> {
     pub fn new(stated: [Slice; N]) -> Self {
         let words = stated[1..].iter();
         Scratch {
             stated,
-            draft: vec![0; stated[0].1 + SPARE],
-            words: words.map(|slice| vec![0; slice.1 + SPARE]).collect(),
+            draft: vec![0; held(stated[0])],
+            words: words.map(|&slice| vec![0; held(slice)]).collect(),
             lent: stated.map(|slice| slice.1),
             before: Vec::new(),
             counts: Counts::default(),
@@ -53,9 +62,17 @@ impl<const N: usize> Scratch<N> {
 
     /// The slices as they are lent: the draft, and the others in their order.
     pub fn slices<const M: usize>(&mut self) -> (&mut [u8], [&mut [u32]; M]) {
-        let draft = &mut self.draft[..self.lent[0]];
-        let words = self.words.iter_mut().zip(&self.lent[1..]);
-        let mut words = words.map(|(cells, &length)| &mut cells[..length]);
+        self.slices_of(self.lent)
+    }
+
+    /// The same slices, of these lengths.
+    pub fn slices_of<const M: usize>(
+        &mut self,
+        lengths: [usize; N],
+    ) -> (&mut [u8], [&mut [u32]; M]) {
+        let draft = &mut self.draft[..lengths[0]];
+        let words = self.words.iter_mut().zip(lengths[1..].to_vec());
+        let mut words = words.map(|(cells, length)| &mut cells[..length]);
         let words = std::array::from_fn(|_| words.next().expect("a call asks for its own slices"));
         (draft, words)
     }
@@ -116,6 +133,9 @@ impl<const N: usize> Scratch<N> {
     /// Puts random numbers into the scratch: a few cells, or all of them.
     pub fn soil(&mut self, rng: &mut Rng, all: bool) {
         self.counts.soiled += 1;
+        // Numbers of its own: what is drawn after it is the same whatever lengths
+        // are stated.
+        let rng = &mut Rng::new(rng.draw());
         let lent = self.lent;
         soil(rng, all, &mut self.draft[..lent[0]], |n| n as u8);
         for (cells, length) in self.words.iter_mut().zip(&lent[1..]) {
