@@ -31,3 +31,8 @@ if-false b = if-same b false
 -- what tells two constructors apart
 pub true-false : {A : Type 0} → true ≡ false → A
 true-false e = let z : _≡_ {A = ℕ} 0 1 = cc in absurd (omega arith)
+
+-- a test that cannot hold does not
+pub not-so : (b : Bool) → (b ≡ true → ⊥) → false ≡ b
+not-so true h = absurd (h refl)
+not-so false h = refl

@@ -12,7 +12,7 @@ use borrow.Author.Tests.{eqb-true, eq-eqb, ne-eqb, not-true, not-false}
 use Rattle.cells.specs.Part.{run, cell, part, if, eqList}
 use Rattle.cells.specs.Sum.{Sum}
 use Rattle.cells.proofs.Parts.{run-at, run-length, run-next, run-none, run-whole, eqList-longer}
-use Rattle.cells.proofs.Choices.{true-false, if-self}
+use Rattle.cells.proofs.Choices.{true-false, not-so, if-self}
 use Rattle.layout.specs.Layout.{rowsAt}
 use Rattle.rules.specs.Plain.{both}
 use Rattle.rules.specs.Ceilings.{mostNames, mostEntries, mostPairs, mostMarks, mostRoots}
@@ -338,16 +338,11 @@ module _ {old table : List ℕ} {u t : Table} where
       (roots-decide (many _ _ (u .names) (t .names) (a .named)) (a .entries) (many _ _ (u .pairs) (t .pairs) (a .paired))
       (many _ _ (u .marks) (t .marks) (a .marked)))
 
--- a test that cannot hold does not
-no : (b : Bool) → (b ≡ true → ⊥) → false ≡ b
-no true h = absurd (h refl)
-no false h = refl
-
 -- two tables of which the rows cannot agree
 differ : {old table : List ℕ} {u t : Table} → (Laid u old → Laid t table → Agree old u table t → ⊥) → Comparable old u table t false
 differ {old} {table} {u} {t} f = record {
   is = λ r₁ e₁ r₂ e₂.
-      no (byRows old u table t) (λ h. f (r₁ .laid) (r₂ .laid) (agree h)) ∙ sym (by-rows (sheet r₁ e₁) (sheet r₂ e₂));
+      not-so (byRows old u table t) (λ h. f (r₁ .laid) (r₂ .laid) (agree h)) ∙ sym (by-rows (sheet r₁ e₁) (sheet r₂ e₂));
 }
 
 module _ {old table : List ℕ} {u t : Table} where

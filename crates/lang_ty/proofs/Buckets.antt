@@ -1,7 +1,7 @@
 -- A row's hash, word by word, and what a link does to the index. Assumes nothing.
 use mathlib.Core.Path.{_≡_, refl, sym, ap, ap₂, _∙_}
 use mathlib.Core.Bool.{Bool, true, false}
-use Prim.Native.Nat.{ℕ, suc, _+_, _-_, _/_, _≤_, _<_}
+use Prim.Native.Nat.{ℕ, suc, _+_, _-_, _≤_, _<_}
 use native.Mathlib.Omega.{arith}
 use mathlib.Core.List.{List, [], _∷_, _++_}
 use lib.ListN.{length, set, length-set, length-append}
@@ -49,9 +49,6 @@ hash-low h (x ∷ xs) lt = hash-low (mixed h x) xs (omega arith)
 pub bucket-low : {h : ℕ} (row : List ℕ) → h ≡ hash row → bucketOf h < buckets
 unfolding hash
 bucket-low row e = let lt = hash-low 0 row (omega arith) in omega arith
-
-pub bucket-place : {h p : ℕ} → p ≡ newestAt + h / 16777216 → BucketPlace h p
-bucket-place e = record { is = e }
 
 pub newest-read : {w : List ℕ} {h p r : ℕ} → BucketPlace h p → r ≡ cell w p → Newest w h r
 newest-read {w} e f = record { is = f ∙ ap (cell w) (e .is) }

@@ -7,6 +7,7 @@ use mathlib.Core.List.{List}
 use lib.ListN.{length}
 use Rattle.cells.specs.Part.{cell, part, if, eqList}
 use Rattle.cells.specs.Sum.{Sum}
+use Rattle.cells.proofs.Choices.{not-so}
 use Rattle.cells.proofs.Parts.{left, left-whole, left-next, left-other, left-none, eqList-longer}
 use Rattle.layout.specs.Layout.{earlierAt, hashesAt}
 use Rattle.rules.specs.Types.{Node, encode, nodeAt}
@@ -71,10 +72,6 @@ module _ {w : List ℕ} {i top len a p e l : ℕ} (from : a ≡ cell w i) (next 
             (ap₂ (part w) from m ∙ o .arena .rows i lt .is);
       }
 
-not-true : (b : Bool) → (b ≡ true → ⊥) → false ≡ b
-not-true true f = absurd (f refl)
-not-true false f = refl
-
 -- `hit`: rows of different hashes are different
 module _ {w : List ℕ} {x h top len p g : ℕ} (at : p ≡ hashesAt + x) (is : g ≡ cell w p) where
   pub hit-other : (g ≡ h → ⊥) → Hit w x h top len false
@@ -82,7 +79,7 @@ module _ {w : List ℕ} {x h top len p g : ℕ} (at : p ≡ hashesAt + x) (is : 
       record {
         is = λ {q} {ns} {n} o e lt.
             let told = is ∙ ap (cell w) at ∙ o .arena .index .hash-of x lt in
-            not-true (eqList (encode n) (encode (nodeAt ns x)))
+            not-so (eqList (encode n) (encode (nodeAt ns x)))
             (λ z. apart (told ∙ ap hash (sym (eqList-true (encode n) (encode (nodeAt ns x)) z)) ∙ sym e));
       }
 

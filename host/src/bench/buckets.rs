@@ -1,6 +1,6 @@
 //! Our time for roots whose nodes are all in one bucket of the store's index,
-//! so that a new one is compared with all others, beside the same roots with
-//! nodes in all buckets, and beside the Rust's.
+//! or have one hash, beside the same roots over other nodes, and beside the
+//! Rust's.
 
 use std::hint::black_box;
 use std::time::Duration;
@@ -11,77 +11,102 @@ use super::libraries::{self, Each};
 use super::subject::{beside_rust, Subject};
 use crate::calls::{Canon, Library, OUTPUT};
 use crate::input::buckets::{one_bucket, spread};
+use crate::input::hashes::{any_hash, one_hash};
 use crate::report::rows::{print_heads, print_row};
 
-/// A table has at most 2,048 entries.
-const VARIABLES: [usize; 4] = [250, 500, 1_000, 2_000];
+/// Nodes that are compared with many others, and a root over so many of them.
+struct Nodes {
+    name: &'static str,
+    counts: &'static [usize],
+    close: fn(usize) -> Vec<u8>,
+    /// The same root over other nodes.
+    apart: fn(usize) -> Vec<u8>,
+}
 
-/// Medians of one number of variables.
+const NODES: [Nodes; 2] = [
+    Nodes {
+        name: "variables of one bucket",
+        // A table has at most 2,048 entries.
+        counts: &[250, 500, 1_000, 2_000],
+        close: one_bucket,
+        apart: spread,
+    },
+    Nodes {
+        name: "unions of one hash",
+        // A set has at most 1,024 fields.
+        counts: &[150, 300, 600],
+        close: one_hash,
+        apart: any_hash,
+    },
+];
+
+/// Medians of one root.
 struct Times {
-    spread: Duration,
-    one_bucket: Each<Duration>,
-    /// On one bucket.
+    apart: Duration,
+    close: Each<Duration>,
     rust: Option<Duration>,
 }
 
 pub fn run() {
-    println!("Processor time of a call on many variables, medians of {RUNS} runs:");
+    println!("Processor time of a call on nodes of one bucket, medians of {RUNS} runs:");
     println!();
     let heads = [
-        "variables",
-        "entries",
         "nodes",
-        "ours, spread",
-        "ours, one bucket",
+        "so many",
+        "entries",
+        "nodes in all",
+        "ours",
+        "ours, other nodes",
     ];
-    let earlier = libraries::heads(["before, one bucket", "ours / before"]);
-    let rust = ["Rust, one bucket", "ours / Rust"];
+    let earlier = libraries::heads(["before", "ours / before"]);
+    let rust = ["Rust", "ours / Rust"];
     print_heads(&[&heads[..], &earlier, &rust].concat());
-    for count in VARIABLES {
-        // The Rust needs the stack; ours is content with it.
-        timed::on_large_stack(|| row(count));
+    for nodes in &NODES {
+        for &count in nodes.counts {
+            // The Rust needs the stack; ours is content with it.
+            timed::on_large_stack(|| row(nodes, count));
+        }
     }
 }
 
-fn row(count: usize) {
+fn row(nodes: &Nodes, count: usize) {
     let mut canon = Canon::new();
-    let [spread, one] =
-        [spread(count), one_bucket(count)].map(|text| Subject::new(&mut canon, text));
-    assert_eq!(spread.sizes(), one.sizes(), "they differ in numbers alone");
-    let times = measure(&mut canon, &spread, &one);
-    let ours = times.one_bucket[0];
-    let cells = one
-        .sizes()
-        .into_iter()
-        .chain([told(times.spread), told(ours)]);
-    let cells = cells.chain(libraries::cells(times.one_bucket));
+    let [close, apart] =
+        [nodes.close, nodes.apart].map(|make| Subject::new(&mut canon, make(count)));
+    assert_eq!(close.sizes(), apart.sizes(), "they are of one shape");
+    let times = measure(&mut canon, &close, &apart);
+    let ours = times.close[0];
+    let cells = [count.to_string()].into_iter().chain(close.sizes());
+    let cells = cells.chain([told(ours), told(times.apart)]);
+    let cells = cells.chain(libraries::cells(times.close));
     let cells = cells.chain(beside_rust(ours, times.rust));
-    print_row(&count.to_string(), cells);
+    print_row(nodes.name, cells);
 }
 
 /// In turn, so that a busy machine slows all.
-fn measure(canon: &mut Canon, spread: &Subject, one: &Subject) -> Times {
+fn measure(canon: &mut Canon, close: &Subject, apart: &Subject) -> Times {
     let mut out = vec![0; OUTPUT];
-    let mut one_bucket = Each::<Vec<Duration>>::default();
-    let (mut spread_out, mut rust) = (Vec::new(), Vec::new());
+    let mut each = Each::<Vec<Duration>>::default();
+    let (mut others, mut rust) = (Vec::new(), Vec::new());
     for _ in 0..RUNS {
-        for (library, times) in Library::ALL.into_iter().zip(&mut one_bucket) {
+        // Each library after the Rust: what ran last has its memory warm.
+        for (library, times) in Library::ALL.into_iter().zip(&mut each) {
             times.push(time(|| {
-                let _ = black_box(canon.bare_of(library, black_box(&one.text), &mut out));
+                let _ = black_box(canon.bare_of(library, black_box(&close.text), &mut out));
             }));
-            spread_out.push(time(|| {
-                let _ = black_box(canon.bare(black_box(&spread.text), &mut out));
+            others.push(time(|| {
+                let _ = black_box(canon.bare(black_box(&apart.text), &mut out));
             }));
-            if one.returns {
+            if close.returns {
                 rust.push(time(|| {
-                    let _ = black_box(rust_listing(black_box(&one.text)));
+                    let _ = black_box(rust_listing(black_box(&close.text)));
                 }));
             }
         }
     }
     Times {
-        spread: median(spread_out),
-        one_bucket: one_bucket.map(median),
-        rust: one.returns.then(|| median(rust)),
+        apart: median(others),
+        close: each.map(median),
+        rust: close.returns.then(|| median(rust)),
     }
 }

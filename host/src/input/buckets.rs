@@ -16,7 +16,7 @@ const FACTOR: u32 = 1_640_531_527;
 const INVERSE: u32 = 3_954_393_975;
 const _: () = assert!(FACTOR.wrapping_mul(INVERSE) == 1);
 
-/// The hash of a node's row, as the store makes it (crates/lang_ty/src/arena.rt).
+/// The hash of a node's row, as the store makes it (crates/lang_ty/src/index.rt).
 /// Should it be another there, what is made by this one is still right, but its
 /// nodes are in any buckets.
 pub fn hash(row: &[u32]) -> u32 {

@@ -4,6 +4,7 @@ pub mod buckets;
 pub mod changes;
 pub mod draft;
 pub mod edits;
+pub mod hashes;
 pub mod join;
 pub mod ladders;
 pub mod large;
