@@ -1,23 +1,23 @@
 -- A row's hash, word by word, and what a link does to the index. Assumes nothing.
 use mathlib.Core.Path.{_≡_, refl, sym, ap, ap₂, _∙_}
 use mathlib.Core.Bool.{Bool, true, false}
-use Prim.Native.Nat.{ℕ, suc, _+_, _-_, _≤_, _<_}
+use Prim.Native.Nat.{ℕ, zero, suc, _+_, _-_, _≤_, _<_}
 use native.Mathlib.Omega.{arith}
 use mathlib.Core.List.{List, [], _∷_, _++_}
 use lib.ListN.{length, set, length-set, length-append}
 use lib.Seq.{getD-set-same, getD-set-other}
 use lib.Dec.{eqb}
-use borrow.Author.Tests.{eqb-true, eqb-false}
+use borrow.Author.Tests.{eqb-true, eqb-false, le-ltb}
 use Rattle.cells.specs.Part.{cell, part, if}
 use Rattle.cells.specs.Sum.{Sum}
 use Rattle.cells.proofs.Parts.{run-whole, run-next, run-none}
 use Rattle.layout.specs.Layout.{earlierAt, hashesAt, newestAt, buckets, arenaWords, arenaLength}
 use Rattle.rules.specs.Ceilings.{mostNodes}
 use Rattle.rules.specs.Types.{Node, encode, nodeAt}
-use Rattle.laws.specs.Indexed.{bucketAt, newest}
+use Rattle.laws.specs.Indexed.{bucketAt, newest, inBucket}
 use Rattle.laws.proofs.Indexing.{newest-alike}
 use Rattle.laws.proofs.Storing.{by-place, node-before, node-last}
-use Rattle.lang_ty.specs.Buckets.{mixed, hashFrom, hash, bucketOf, bucket, linkOf, Indexed, Mixed, Hashed, BucketPlace, Newest, Linked}
+use Rattle.lang_ty.specs.Buckets.{mixed, hashFrom, hash, bucketOf, bucket, linkOf, follow, Indexed, Mixed, Hashed, BucketPlace, Newest, Linked}
 
 -- `hash` at word i: what is left to take in comes to the whole
 pub record Hashing (w : List ℕ) (a n h i : ℕ) : Type 0 where
@@ -184,3 +184,29 @@ module _ {w w′ : List ℕ} {g x end : ℕ} {ns : List Node} (n : Node) (h : In
             (λ i lt. kept-hash i lt ∙ h .hash-of i lt ∙ ap (λ (m : Node). hash (encode m)) (sym (node-before ns n i lt)))
             (ap (λ (i : ℕ). cell w′ (hashesAt + i)) (sym count) ∙ j .hash-is ∙ is ∙ ap (λ (m : Node). hash (encode m)) (sym (node-last ns n)));
       }
+
+-- following a bucket's links: "a bucket's links list the nodes of that hash"
+module _ {w : List ℕ} {ns : List Node} (h : Indexed w ns) (b : ℕ) where
+  abbrev buckets-of : ℕ → ℕ
+  buckets-of = bucketAt bucket ns
+
+  follow-none : (m : ℕ) → follow w m 0 ≡ []
+  follow-none zero = refl
+  follow-none (suc m) = refl
+
+  follow-turn : (t : Bool) (k m : ℕ) → eqb (buckets-of k) b ≡ t → k < length ns → ((l : ℕ) → k ≤ l → follow w l (linkOf (newest buckets-of b k)) ≡ inBucket buckets-of b k)
+      → suc k ≤ m → follow w m (linkOf (if t (λ _. suc k) (λ _. newest buckets-of b k))) ≡ if t (λ _. k ∷ inBucket buckets-of b k) (λ _. inBucket buckets-of b k)
+  follow-turn true k zero e lt rest le = absurd (omega arith)
+  follow-turn true k (suc m) e lt rest le =
+      let here : earlierAt + k - earlierAt ≡ k = omega arith in
+      let link = h .earlier-of k lt ∙ ap (λ (c : ℕ). linkOf (newest buckets-of c k)) (eqb-true (buckets-of k) b e) in
+      ap (λ (t : Bool). if t (λ _. []) (λ _. (earlierAt + k - earlierAt) ∷ follow w m (cell w (earlierAt + k)))) (le-ltb (earlierAt + k) earlierAt (omega arith))
+      ∙ ap₂ {C = List ℕ} _∷_ here (ap (follow w m) link ∙ rest m (omega arith))
+  follow-turn false k m e lt rest le = rest m (omega arith)
+
+  follow-all : (k : ℕ) → k ≤ length ns → (m : ℕ) → k ≤ m → follow w m (linkOf (newest buckets-of b k)) ≡ inBucket buckets-of b k
+  follow-all zero few m le = follow-none m
+  follow-all (suc k) few m le = follow-turn (eqb (buckets-of k) b) k m refl (omega arith) (λ l z. follow-all k (omega arith) l z) le
+
+  pub links-list : b < buckets → follow w (length ns) (cell w (newestAt + b)) ≡ inBucket buckets-of b (length ns)
+  links-list lt = ap (follow w (length ns)) (h .newest-of b lt) ∙ follow-all (length ns) (omega arith) (length ns) (omega arith)

@@ -1,9 +1,10 @@
 -- The store's index: for each bucket its newest node, for each node the newest before it of the same bucket, and its row's hash.
 use mathlib.Core.Path.{_≡_}
-use Prim.Native.Nat.{ℕ, zero, suc, _+_, _*_, _/_, _%_, _<_}
+use Prim.Native.Nat.{ℕ, zero, suc, _+_, _-_, _*_, _/_, _%_, _<_}
 use mathlib.Core.List.{List, [], _∷_}
 use lib.ListN.{length, set}
-use Rattle.cells.specs.Part.{cell, part}
+use lib.Dec.{ltb}
+use Rattle.cells.specs.Part.{cell, part, if}
 use Rattle.layout.specs.Layout.{earlierAt, hashesAt, newestAt, buckets}
 use Rattle.rules.specs.Ceilings.{mostNodes}
 use Rattle.rules.specs.Types.{Node, encode, nodeAt}
@@ -32,7 +33,13 @@ abbrev pub linkOf : ℕ → ℕ
 linkOf zero = 0
 linkOf (suc x) = earlierAt + x
 
--- a bucket's links list the nodes of that hash, newest first
+-- the nodes that are met where k links are followed from the place p on, or fewer
+abbrev pub follow : List ℕ → ℕ → ℕ → List ℕ
+follow w zero p = []
+follow w (suc k) p = if (ltb p earlierAt) (λ _. []) (λ _. (p - earlierAt) ∷ follow w k (cell w p))
+
+-- a bucket tells its newest node, and a node's link the newest before it of the same bucket: so a bucket's links list the nodes of that hash, newest
+-- first (`links-list`, proofs/Buckets.antt)
 pub record Indexed (w : List ℕ) (ns : List Node) : Type 0 where
   pub newest-of : (b : ℕ) → b < buckets → cell w (newestAt + b) ≡ linkOf (newest (bucketAt bucket ns) b (length ns))
   pub earlier-of : (x : ℕ) → x < length ns → cell w (earlierAt + x) ≡ linkOf (newest (bucketAt bucket ns) (bucketAt bucket ns x) x)

@@ -23,6 +23,11 @@ abbrev pub newest : (ℕ → ℕ) → ℕ → ℕ → ℕ
 newest bucket b zero = 0
 newest bucket b (suc k) = if (eqb (bucket k) b) (λ _. suc k) (λ _. newest bucket b k)
 
+-- those of the first k nodes that are in bucket b, newest first
+abbrev pub inBucket : (ℕ → ℕ) → ℕ → ℕ → List ℕ
+inBucket bucket b zero = []
+inBucket bucket b (suc k) = if (eqb (bucket k) b) (λ _. k ∷ inBucket bucket b k) (λ _. inBucket bucket b k)
+
 -- the first k nodes searched, newest first, those of bucket b alone
 abbrev pub seek : (ℕ → ℕ) → (ℕ → Bool) → ℕ → ℕ → Option ℕ
 seek bucket is b zero = none
