@@ -390,7 +390,7 @@ module _ {old table : List ℕ} {u t : Table} {c : Bool} (counts : SameCounts u 
 
   module _ {b d : ℕ} (mine : Budget old b) (yours : Budget table d) where
     pub budget-other : (b ≡ d → ⊥) → Comparable old u table t false
-    budget-other no = one (differ (λ l₁ l₂ a. no (mine .is (l₁ .within 0 (omega arith)) ∙ a .budgets ∙ sym (yours .is (l₂ .within 0 (omega arith))))))
+    budget-other apart = one (differ (λ l₁ l₂ a. apart (mine .is (l₁ .within 0 (omega arith)) ∙ a .budgets ∙ sym (yours .is (l₂ .within 0 (omega arith))))))
 
     module _ {m : ℕ} {x : Bool} (budgets : b ≡ d) (m-is : Number (t .names) m) (x-is : SameRows old table (rowsAt + 1) m x) where
       pub names-other : not x ≡ true → Comparable old u table t false

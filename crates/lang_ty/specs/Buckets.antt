@@ -28,7 +28,7 @@ bucketOf h = h / 16777216
 abbrev pub bucket : List ℕ → ℕ
 bucket row = bucketOf (hash row)
 
--- a node is told by the place of its link; here by its number and 1, where 0 is none
+-- where the link of a node lies, by the node's number and 1; 0 where there is none
 abbrev pub linkOf : ℕ → ℕ
 linkOf zero = 0
 linkOf (suc x) = earlierAt + x

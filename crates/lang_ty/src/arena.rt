@@ -153,7 +153,7 @@ fn hit(arena: &[u32], x: u32, h: u32, top: u32, len: u32) -> bool
 }
 
 // The node whose row is the len words from top on, whose hash is h: the links of its bucket are followed. They fall; one that does not ends the
-// search, so that it ends in any slice.
+// search, so that it ends in any slice. p is a link as it was read, a place of the slice: nothing stands between one link and the next.
 fn find(arena: &[u32], h: u32, top: u32, len: u32) -> Found
     ensures { λ r. ⌜ Sought (now (arena .entry)) h top len r ⌝ }
 {
