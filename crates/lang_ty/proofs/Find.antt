@@ -18,7 +18,7 @@ use Rattle.lang_ty.specs.declared.arena.Pass.{Pass}
 use Rattle.lang_ty.specs.declared.arena.Found.the-variants.{At, Nowhere}
 use Rattle.lang_ty.specs.Nodes.{Same, Offered, RowIs, Hit, Sought}
 use Rattle.lang_ty.proofs.Words.{row-few}
-use mathlib.Core.Option.{some}
+use mathlib.Core.Option.{Option, some}
 use Rattle.lang_ty.specs.Buckets.{hash, bucketOf, bucket, linkOf, Newest}
 use Rattle.lang_ty.proofs.Buckets.{bucket-low}
 
@@ -86,37 +86,35 @@ module _ {w : List ℕ} {x h top len p g : ℕ} (at : p ≡ hashesAt + x) (is : 
   pub hit-same : {r : Bool} → RowIs w x top len r → Hit w x h top len r
   hit-same c = record { is = λ o e lt. c .is o lt }
 
--- what `find` has left to search of the first i nodes: it comes to what the whole search comes to
-pub record Left (ns : List Node) (n : Node) (i : ℕ) : Type 0 where
-  pub few : i ≤ length ns
-  pub of-bucket : (x : ℕ) → i ≡ suc x → bucketAt bucket ns x ≡ bucket (encode n)
-  pub is : seek (bucketAt bucket ns) (rowAt (encode n) ns) (bucket (encode n)) i ≡ seekNode bucket n ns
+-- the search for n among the first k nodes
+abbrev pub sought-in : List Node → Node → ℕ → Option ℕ
+sought-in ns n k = seek (bucketAt bucket ns) (rowAt (encode n) ns) (bucket (encode n)) k
 
--- p tells the newest of those
-pub record At-link (ns : List Node) (n : Node) (p : ℕ) : Type 0 where
+-- `find` at the place p, the link of the node with this number and 1: what is left to search comes to what the whole search comes to
+pub record Left (ns : List Node) (n : Node) (p : ℕ) : Type 0 where
   pub number : ℕ
-  pub is : p ≡ linkOf number
-  pub left : Left ns n number
+  pub at : p ≡ linkOf number
+  pub few : number ≤ length ns
+  pub of-bucket : (x : ℕ) → number ≡ suc x → bucketAt bucket ns x ≡ bucket (encode n)
+  pub is : sought-in ns n number ≡ seekNode bucket n ns
 
 -- the newest of the first k nodes, where these are what is left
-newest-left : (ns : List Node) (n : Node) (k p : ℕ) → k ≤ length ns → seek (bucketAt bucket ns) (rowAt (encode n) ns) (bucket (encode n)) k ≡ seekNode bucket n ns
-    → p ≡ linkOf (newest (bucketAt bucket ns) (bucket (encode n)) k) → At-link ns n p
+newest-left : (ns : List Node) (n : Node) (k p : ℕ) → k ≤ length ns → sought-in ns n k ≡ seekNode bucket n ns
+    → p ≡ linkOf (newest (bucketAt bucket ns) (bucket (encode n)) k) → Left ns n p
 newest-left ns n k p le h e =
     let f = bucketAt bucket ns in
     let b = bucket (encode n) in
     record {
       number = newest f b k;
-      is = e;
-      left = record {
-        few = omega (arith, newest-low f b k);
-        of-bucket = λ x z. newest-is f b k x z;
-        is = sym (seek-newest f b (rowAt (encode n) ns) k) ∙ h;
-      };
+      at = e;
+      few = omega (arith, newest-low f b k);
+      of-bucket = λ x z. newest-is f b k x z;
+      is = sym (seek-newest f b (rowAt (encode n) ns) k) ∙ h;
     }
 
 pub record Walking (w : List ℕ) (h top len p : ℕ) : Type 0 where
   pub small : p ≤ 4294967295
-  pub is : {q : Pass} {ns : List Node} {n : Node} → Offered w q top len ns n → h ≡ hash (encode n) → At-link ns n p
+  pub is : {q : Pass} {ns : List Node} {n : Node} → Offered w q top len ns n → h ≡ hash (encode n) → Left ns n p
 
 -- the number that a place tells
 number-zero : (i p : ℕ) → p ≡ linkOf i → p < earlierAt → i ≡ 0
@@ -149,28 +147,25 @@ module _ {w : List ℕ} {h top len p : ℕ} where
       record {
         is = λ {q} {ns} {n} o e.
             let l = c .is o e in
-            ap (seek (bucketAt bucket ns) (rowAt (encode n) ns) (bucket (encode n))) (sym (number-zero (l .number) p (l .is) lt)) ∙ l .left .is;
+            ap (sought-in ns n) (sym (number-zero (l .number) p (l .at) lt)) ∙ l .is;
       }
 
   module _ {x : ℕ} {t : Bool} (c : Walking w h top len p) (le : earlierAt ≤ p) (at : x ≡ p - earlierAt) (g : Hit w x h top len t) where
     module _ {q : Pass} {ns : List Node} {n : Node} (o : Offered w q top len ns n) (e : h ≡ hash (encode n)) where
       number-is : c .is o e .number ≡ suc x
-      number-is = number-suc (c .is o e .number) p x (c .is o e .is) le at
+      number-is = number-suc (c .is o e .number) p x (c .is o e .at) le at
 
       among : x < length ns
-      among = omega (arith, number-is, c .is o e .left .few)
+      among = omega (arith, number-is, c .is o e .few)
 
       of : bucketAt bucket ns x ≡ bucket (encode n)
-      of = c .is o e .left .of-bucket x number-is
+      of = c .is o e .of-bucket x number-is
 
       -- node x is looked at next, and says t
-      turn : if t (λ _. some x) (λ _. seek (bucketAt bucket ns) (rowAt (encode n) ns) (bucket (encode n)) x) ≡ seekNode bucket n ns
+      turn : if t (λ _. some x) (λ _. sought-in ns n x) ≡ seekNode bucket n ns
       turn =
-          let f = bucketAt bucket ns in
-          let r = rowAt (encode n) ns in
-          let b = bucket (encode n) in
-          ap (λ (u : Bool). if u (λ _. some x) (λ _. seek f r b x)) (g .is o e among)
-          ∙ sym (seek-turn f b r x of) ∙ sym (ap (seek f r b) number-is) ∙ c .is o e .left .is
+          ap (λ (u : Bool). if u (λ _. some x) (λ _. sought-in ns n x)) (g .is o e among)
+          ∙ sym (seek-turn (bucketAt bucket ns) (bucket (encode n)) (rowAt (encode n) ns) x of) ∙ sym (ap (sought-in ns n) number-is) ∙ c .is o e .is
 
       -- where the next link leads
       next : {e′ : ℕ} → e′ ≡ cell w p → e′ ≡ linkOf (newest (bucketAt bucket ns) (bucket (encode n)) x)
@@ -182,7 +177,7 @@ module _ {w : List ℕ} {h top len p : ℕ} where
     walking-here z =
         record {
           is = λ {q} {ns} {n} o e.
-              ap (λ (u : Bool). if u (λ _. some x) (λ _. seek (bucketAt bucket ns) (rowAt (encode n) ns) (bucket (encode n)) x)) (sym z) ∙ turn o e;
+              ap (λ (u : Bool). if u (λ _. some x) (λ _. sought-in ns n x)) (sym z) ∙ turn o e;
         }
 
     module _ {v i : ℕ} (other : t ≡ false) (read : v ≡ cell w p) (same : i ≡ v) where
@@ -204,6 +199,6 @@ module _ {w : List ℕ} {h top len p : ℕ} where
             small = omega (arith, c .small);
             is = λ {q} {ns} {n} o e.
                 newest-left ns n x i (omega (arith, among o e))
-                (ap (λ (u : Bool). if u (λ _. some x) (λ _. seek (bucketAt bucket ns) (rowAt (encode n) ns) (bucket (encode n)) x)) (sym other) ∙ turn o e)
+                (ap (λ (u : Bool). if u (λ _. some x) (λ _. sought-in ns n x)) (sym other) ∙ turn o e)
                 (next o e (same ∙ read));
           }

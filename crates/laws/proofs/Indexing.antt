@@ -63,7 +63,7 @@ module _ (bucket : ℕ → ℕ) (b : ℕ) where
         ap (λ (t : Bool). if t (λ _. if (is k) (λ _. some k) (λ _. seek bucket is b k)) (λ _. seek bucket is b k)) (eq-eqb (bucket k) b e)
 
     -- what is found passes, and what passes in the bucket is found
-    pub record Sighted (k j : ℕ) : Type 0 where
+    record Sighted (k j : ℕ) : Type 0 where
       pub below : j < k
       pub passes : is j ≡ true
 
@@ -80,7 +80,7 @@ module _ (bucket : ℕ → ℕ) (b : ℕ) where
     sighted-turn true k j f h = sighted-here (is k) k j refl f h
     sighted-turn false k j f h = sighted-more (f h)
 
-    pub sighted : (k j : ℕ) → seek bucket is b k ≡ some j → Sighted k j
+    sighted : (k j : ℕ) → seek bucket is b k ≡ some j → Sighted k j
     sighted zero j h = let z : _≡_ {A = ℕ} 0 1 = cc in absurd (omega arith)
     sighted (suc k) j h = sighted-turn (eqb (bucket k) b) k j (sighted k j) h
 
@@ -91,7 +91,7 @@ module _ (bucket : ℕ → ℕ) (b : ℕ) where
     missed-turn false u k i e g f h of-b passes at =
         ⊎-elim (λ (z : i ≡ k). true-false (sym (eq-eqb (bucket k) b (ap bucket (sym z) ∙ of-b)) ∙ e)) (λ (lt : i < k). f h lt) at
 
-    pub missed : (k i : ℕ) → seek bucket is b k ≡ none → bucket i ≡ b → is i ≡ true → i < k → ⊥
+    missed : (k i : ℕ) → seek bucket is b k ≡ none → bucket i ≡ b → is i ≡ true → i < k → ⊥
     missed zero i h of-b passes lt = not-suc-le-zero lt
     missed (suc k) i h of-b passes lt =
         missed-turn (eqb (bucket k) b) (is k) k i refl refl (λ z l. missed k i z of-b passes l) h of-b passes (eq-or-lt-of-le (omega arith))
@@ -126,9 +126,9 @@ module _ (n : Node) (ns : List Node) (d : Distinct ns) where
     seek-finds = found (seekNode hash n ns) refl
 
 module _ (hash : List ℕ → ℕ) where
-  pub stores-alike : (n : Node) (st : State) → Distinct (st .nodes) → storeIndexed hash n st ≡ store n st
+  store-alike : (n : Node) (st : State) → Distinct (st .nodes) → storeIndexed hash n st ≡ store n st
   unfolding store
-  stores-alike n st d = ap (λ (f : Option ℕ). if (ltb mostMembers (length (members n))) (λ _. no 7) (λ _. keep n st f)) (seek-finds n (st .nodes) d hash)
+  store-alike n st d = ap (λ (f : Option ℕ). if (ltb mostMembers (length (members n))) (λ _. no 7) (λ _. keep n st f)) (seek-finds n (st .nodes) d hash)
 
   series-turn : (n : Node) (ns : List Node) (st : State) (o : Out ℕ) → store n st ≡ o → Distinct (st .nodes)
       → ((s : State) → Distinct (s .nodes) → series (storeIndexed hash) ns s ≡ series store ns s)
@@ -140,5 +140,5 @@ module _ (hash : List ℕ → ℕ) where
   pub series-alike : (ns : List Node) (st : State) → Distinct (st .nodes) → series (storeIndexed hash) ns st ≡ series store ns st
   series-alike [] st d = refl
   series-alike (n ∷ ns) st d =
-      ap (λ (o : Out ℕ). bind o (λ x s. bind (series (storeIndexed hash) ns s) (λ xs t. ok (x ∷ xs) t))) (stores-alike n st d)
+      ap (λ (o : Out ℕ). bind o (λ x s. bind (series (storeIndexed hash) ns s) (λ xs t. ok (x ∷ xs) t))) (store-alike n st d)
       ∙ series-turn n ns st (store n st) refl d (series-alike ns)
