@@ -103,8 +103,8 @@ fn count_root(answer: &RootAnswer, counts: &mut Counts) {
         true => "bailed 1",
         false => "bailed 0",
     });
-    if shown.first_bailed && !shown.bailed {
-        counts.add("bailed 0, but the first pass bailed");
+    if shown.first_alone {
+        counts.add("bailed 1, by the first pass alone");
     }
     if shown.operations > 512 {
         counts.add("operations above 512");

@@ -1,5 +1,6 @@
-//! The tables of document 01's worked examples, as far as they are accepted.
-//! Tabs are written `>` there and here.
+//! The tables of document 01's worked examples, as far as they are accepted,
+//! and after them one of request 2's, with two budgets. Tabs are written `>`
+//! there and here.
 
 use std::fmt::Write as _;
 
@@ -42,6 +43,8 @@ pub fn all() -> Vec<Example> {
         example("K11 511", format!("budget>511\n{}", operation_512())),
         example("K11 512", format!("budget>512\n{}", operation_512())),
         short("K12 95 lists", &nested_lists(95)),
+        example("bailed 511", format!("budget>511\n{}", spent())),
+        example("bailed 600", format!("budget>600\n{}", spent())),
     ]
 }
 
@@ -91,6 +94,21 @@ fn operation_512() -> String {
         last += 1;
     }
     let _ = write!(lines, "fn>{last}>0\nroot>{}>+\n", last + 1);
+    lines
+}
+
+/// Two roots: a variable in both places, so that there is a second pass; a
+/// chain of variables that takes more than 512 operations; K1. The first root's
+/// variable is the chain's 17th, where a second pass ends; the other's is its
+/// last.
+fn spent() -> String {
+    let mut lines =
+        String::from("fn>1>2\nfn>24>24\nfn>8>3\nfn>4>4\nvar>5>-\nprim>0\nfn>7>2\nfn>40>40\n");
+    for next in 9..=40 {
+        let bounds = joined((0..16).map(|_| next));
+        let _ = writeln!(lines, "var>{bounds}>-");
+    }
+    lines.push_str("var>->-\nroot>0>+\nroot>6>+\n");
     lines
 }
 

@@ -65,10 +65,10 @@ pub struct Shown {
     /// Of both passes.
     pub operations: u64,
     pub sorted: bool,
-    /// Of the pass shown.
+    /// Of either pass.
     pub bailed: bool,
-    /// Of the first pass, which the listing does not tell.
-    pub first_bailed: bool,
+    /// Of the first pass alone, which the listing does not tell.
+    pub first_alone: bool,
     pub nodes: Vec<Node>,
 }
 

@@ -16,9 +16,10 @@ pub struct Record {
     pub passes: u32,
     /// Operations of both passes.
     pub operations: u64,
-    /// The pass shown bailed, and the first one did.
+    /// A pass bailed.
     pub bailed: bool,
-    pub first_bailed: bool,
+    /// The first pass bailed, and the second did not.
+    pub first_alone: bool,
     /// Factoring shared two or more list members, in either pass.
     pub sorted: bool,
     /// A fallback chain after the bail would go on for ever.
@@ -55,7 +56,7 @@ const EMPTY: Record = Record {
     passes: 0,
     operations: 0,
     bailed: false,
-    first_bailed: false,
+    first_alone: false,
     sorted: false,
     endless: false,
     chain: 0,
@@ -116,8 +117,8 @@ pub fn over_budget() -> bool {
 pub fn pass(bailed: bool) {
     change(|r| {
         r.passes += 1;
-        r.bailed = bailed;
-        r.first_bailed |= bailed && r.passes == 1;
+        r.first_alone = r.bailed && !bailed;
+        r.bailed |= bailed;
         r.most_nodes = r.most_nodes.max(std::mem::take(&mut r.nodes));
         r.most_cells = r.most_cells.max(std::mem::take(&mut r.cells));
     });

@@ -131,7 +131,7 @@ fn run_root(storage: &TypeStorage, budget: u64, names: &[SmolStr], root: Root) -
             operations: record.operations,
             sorted: record.sorted,
             bailed: record.bailed,
-            first_bailed: record.first_bailed,
+            first_alone: record.first_alone,
             nodes: Walk::new(&arena, names).nodes(ty),
         })
     };

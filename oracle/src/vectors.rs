@@ -157,7 +157,7 @@ fn is_usable(root: &RootAnswer) -> bool {
 }
 
 fn bails(root: &RootAnswer) -> bool {
-    matches!(&root.answer, Answer::Shown(shown) if shown.bailed || shown.first_bailed)
+    matches!(&root.answer, Answer::Shown(shown) if shown.bailed)
 }
 
 fn record(table: &Table, answers: &[RootAnswer]) -> Vec<u8> {

@@ -1,8 +1,8 @@
-//! Document 01's worked examples. Tables and listings are written out by
-//! hand from the document, `>` for a tab.
+//! Document 01's worked examples, and request 2's. Tables and listings are
+//! written out by hand from the document, `>` for a tab.
 
 use oracle::examples::{self, Example};
-use oracle::{Answer, Node, Shown};
+use oracle::{Answer, Node, RootAnswer, Shown};
 
 const TABS: char = '>';
 
@@ -165,6 +165,33 @@ fn k11() {
     assert_eq!((whole.operations, whole.bailed), (512, false));
     assert_eq!(body(&bailed), &Node::TyVar(0));
     assert_eq!(body(&whole), &Node::Prim(0));
+}
+
+/// Request 2: the mark is 1 if either pass bailed. With budget 511 the first
+/// root's first pass bails and its second does not, and both of the second
+/// root's do; with 600 only the second pass of the second root.
+#[test]
+#[cfg_attr(not(text_at_hand), ignore = "the Rust text is not at hand")]
+fn bailed() {
+    let table = find("bailed 511").table;
+    assert_eq!(table, include_bytes!("../../examples/bailed.table"));
+    let expected = include_str!("../../examples/bailed.listing");
+    assert_eq!(listing(&table), expected.replace('\t', ">"));
+    assert_eq!(bails(&table), [(true, true), (true, false)]);
+    assert_eq!(
+        bails(&find("bailed 600").table),
+        [(false, false), (true, false)]
+    );
+}
+
+/// The mark of each root, and whether it is the first pass's alone.
+fn bails(table: &[u8]) -> Vec<(bool, bool)> {
+    let answers = oracle::answers(table).expect("the table has answers");
+    let bails = |answer: &RootAnswer| match &answer.answer {
+        Answer::Shown(shown) => (shown.bailed, shown.first_alone),
+        other => panic!("no answer: {other:?}"),
+    };
+    answers.iter().map(bails).collect()
 }
 
 fn body(shown: &Shown) -> &Node {

@@ -1,5 +1,5 @@
 -- A pass from nothing, the set that the second pass preserves, and a root's answer. Assumes nothing.
-use mathlib.Core.Path.{_≡_, refl, sym, ap, _∙_, subst}
+use mathlib.Core.Path.{_≡_, refl, sym, ap, ap₂, _∙_, subst}
 use mathlib.Core.Bool.{Bool, true, false, not, _||_}
 use mathlib.Core.Logic.{⊎-elim}
 use Prim.Native.Nat.{ℕ, zero, suc, _+_, _-_, _*_, _≤_, _<_}
@@ -32,7 +32,7 @@ use Rattle.lang_ty.specs.declared.arena.Pass.{Pass}
 use Rattle.lang_ty.specs.declared.arena.Given.{Given}
 use Rattle.lang_ty.specs.declared.arena.Shown.{Shown}
 use Rattle.lang_ty.specs.declared.arena.Given.the-variants.{Node as NodeG, Refused}
-use Rattle.lang_ty.specs.Nodes.{Stands, Fresh, Answers as Stores}
+use Rattle.lang_ty.specs.Nodes.{Stands, Fresh, shownOf, Answers as Stores}
 use Rattle.lang_ty.proofs.Stores.{stands-none}
 use Rattle.storage.proofs.Alike.{reads-alike}
 use Rattle.storage.specs.declared.given.Canon.{Canon}
@@ -193,33 +193,34 @@ refused-first : (g : Given) {k : ℕ} → firstOf g ≡ RefusedR k → g ≡ Ref
 refused-first (NodeG x q) {k} e = absurd (let z : _≡_ {A = ℕ} 0 1 = cc in omega arith)
 refused-first (Refused n) {k} e = cc
 
-pub second-node : {y : Given} {x : ℕ} {q : Pass} {ops₁ ops : ℕ} {sorted₁ sorted : Bool} → y ≡ NodeG x q → Sum ops₁ (q .ops) ops → Or sorted₁ (q .sorted) sorted
-    → SecondShown y ops₁ sorted₁ (ShownR (shownIn 2 ops sorted (q .bailed) x))
-second-node {y} {x} {q} {ops₁} {ops} {sorted₁} {sorted} d sum o =
+pub second-node : {y : Given} {x : ℕ} {q : Pass} {ops₁ ops : ℕ} {sorted₁ sorted bailed₁ bailed : Bool} → y ≡ NodeG x q → Sum ops₁ (q .ops) ops → Or sorted₁ (q .sorted) sorted
+    → Or bailed₁ (q .bailed) bailed → SecondShown y ops₁ sorted₁ bailed₁ (ShownR (shownIn 2 ops sorted bailed x))
+second-node {y} {x} {q} {ops₁} {ops} {sorted₁} {sorted} {bailed₁} {bailed} d sum o b =
     record {
       is = λ {w} out a most more.
           let g = subst (λ (z : Given). Stores out w z) d a .is in
-          let k = more x (g .after) (g .is) in
-          let e : ops ≡ ops₁ + g .after .ops = sum .is (let z = g .stands .ops in omega arith) ∙ ap (λ (m : ℕ). ops₁ + m) (sym (g .stands .ops)) in
-          let f : sorted ≡ sorted₁ || g .after .sorted = o .is ∙ ap (λ (b : Bool). sorted₁ || b) (sym (g .stands .sorted)) in
+          let st = g .after in
+          let k = more x st (g .is) in
+          let e : ops₁ + st .ops ≡ ops = ap (λ (m : ℕ). ops₁ + m) (g .stands .ops) ∙ sym (sum .is (let z = g .stands .ops in omega arith)) in
+          let f : (sorted₁ || st .sorted) ≡ sorted = ap (λ (b : Bool). sorted₁ || b) (g .stands .sorted) ∙ sym (o .is) in
+          let h : (bailed₁ || st .bailed) ≡ bailed = ap (λ (b : Bool). bailed₁ || b) (g .stands .bailed) ∙ sym (b .is) in
           record {
             is = record {
               pass = q;
-              nodes = g .after .nodes;
+              nodes = st .nodes;
               is =
-                  ap (afterSecond ops₁ sorted₁) (g .is)
-                  ∙ ap (λ (m : ℕ). shown (record { passes = 2; operations = m; sorted = sorted₁ || g .after .sorted; bailed = g .after .bailed; nodes = g .after .nodes; root = x })) (sym e)
-                  ∙ ap (λ (b : Bool). shown (record { passes = 2; operations = ops; sorted = b; bailed = g .after .bailed; nodes = g .after .nodes; root = x })) (sym f)
-                  ∙ ap (λ (b : Bool). shown (record { passes = 2; operations = ops; sorted = sorted; bailed = b; nodes = g .after .nodes; root = x })) (g .stands .bailed);
+                  ap (afterSecond ops₁ sorted₁ bailed₁) (g .is)
+                  ∙ ap (λ (m : ℕ). shown (shownOf (shownIn 2 m (sorted₁ || st .sorted) (bailed₁ || st .bailed) x) (st .nodes))) e
+                  ∙ ap₂ (λ (s b : Bool). shown (shownOf (shownIn 2 ops s b x) (st .nodes))) f h;
               arena = g .stands .arena;
               below = g .below;
             };
           };
     }
 
-pub second-refused : {y : Given} {k ops : ℕ} {sorted : Bool} → y ≡ Refused k → SecondShown y ops sorted (RefusedR k)
-second-refused {ops = ops} {sorted = sorted} d =
-    record { is = λ {w} out a most more. record { is = ap (afterSecond ops sorted) (subst (λ (z : Given). Stores out w z) d a .is) } }
+pub second-refused : {y : Given} {k ops : ℕ} {sorted bailed : Bool} → y ≡ Refused k → SecondShown y ops sorted bailed (RefusedR k)
+second-refused {ops = ops} {sorted = sorted} {bailed = bailed} d =
+    record { is = λ {w} out a most more. record { is = ap (afterSecond ops sorted bailed) (subst (λ (z : Given). Stores out w z) d a .is) } }
 
 -- the bits of a state are those of the working slice
 bits-part : {n : ℕ} {st : State} {work : List ℕ} → Keyed n st work → length (st .bits) ≡ n → part work bitsAt n ≡ st .bits
@@ -291,7 +292,7 @@ module _ {table : List ℕ} {c : Canon} {w work : List ℕ} {id : ℕ} {pol : Po
                   nodes = st .nodes;
                   is =
                       canonicalize-is p t id pol ∙ ap (afterFirst p t id pol) (a .is)
-                      ∙ ap (λ (b : Bool). if b (λ _. afterSecond (st .ops) (st .sorted) (pass (withSet p st) t id pol))
+                      ∙ ap (λ (b : Bool). if b (λ _. afterSecond (st .ops) (st .sorted) (st .bailed) (pass (withSet p st) t id pol))
                       (λ _. shown (record { passes = 1; operations = st .ops; sorted = st .sorted; bailed = st .bailed; nodes = st .nodes; root = x })))
                       (found-is kn tb lent lt ∙ z)
                       ∙ ap (λ (n : ℕ). shown (record { passes = 1; operations = n; sorted = st .sorted; bailed = st .bailed; nodes = st .nodes; root = x })) (a .stands .ops)
@@ -331,7 +332,7 @@ module _ {table : List ℕ} {c : Canon} {w work : List ℕ} {id : ℕ} {pol : Po
     module _ {w2 work2 : List ℕ} {g2 : Given} {table2 : List ℕ} {r : RootAnswer} where
       -- a second pass is shown
       twice : found ≡ true → OnePass table1 (again c (q .ops)) w1 work1 id pol w2 work2 g2 → Clears table1 preservedAt (c .count) table2
-          → SecondShown g2 (q .ops) (q .sorted) r → length table1 ≡ length table → length w1 ≡ length w → length work1 ≡ length work
+          → SecondShown g2 (q .ops) (q .sorted) (q .bailed) r → length table1 ≡ length table → length w1 ≡ length w → length work1 ≡ length work
           → Canonicalizes table c w work id pol table2 w2 work2 r
       twice z two cl second len-f len-w len-h =
           record {
@@ -348,10 +349,11 @@ module _ {table : List ℕ} {c : Canon} {w work : List ℕ} {id : ℕ} {pol : Po
                 let most = pass-most kn tb lt pol x st (a .is) in
                 subst (λ (y : runs.Answer). RootIs y w2 r)
                 (sym (canonicalize-is p t id pol ∙ ap (afterFirst p t id pol) (a .is)
-                ∙ ap (λ (b : Bool). if b (λ _. afterSecond (st .ops) (st .sorted) o)
+                ∙ ap (λ (b : Bool). if b (λ _. afterSecond (st .ops) (st .sorted) (st .bailed) o)
                 (λ _. shown (record { passes = 1; operations = st .ops; sorted = st .sorted; bailed = st .bailed; nodes = st .nodes; root = x })))
                 (found-is kn tb lent lt ∙ z)
-                ∙ ap (λ (n : ℕ). afterSecond n (st .sorted) o) (a .stands .ops) ∙ ap (λ (b : Bool). afterSecond (q .ops) b o) (a .stands .sorted)))
+                ∙ ap (λ (n : ℕ). afterSecond n (st .sorted) (st .bailed) o) (a .stands .ops)
+                ∙ ap₂ (λ (s b : Bool). afterSecond (q .ops) s b o) (a .stands .sorted) (a .stands .bailed)))
                 (second .is o (pass-stores kn2 tb2 lt pol g2 b) (let n = a .stands .ops in omega arith) (pass-most kn2 tb2 lt pol));
             kept = λ un k. by-place un k (ltb k preservedAt) refl;
           }
@@ -376,11 +378,9 @@ module _ {table : List ℕ} {c : Canon} {w work : List ℕ} {id : ℕ} {pol : Po
         subst (λ (y : Shown). Canonicalizes table c w work id pol table1 w1 work1 (ShownR y)) (sym (o .shows)) (once one (o .is) de z)
 
     pub canonicalizes-twice : {w2 work2 : List ℕ} {g2 : Given} {table2 : List ℕ} {r : RootAnswer} → found ≡ true
-        → OnePass table1 (again c (s .ops)) w1 work1 id pol w2 work2 g2 → Clears table1 preservedAt (c .count) table2 → SecondShown g2 (s .ops) (s .sorted) r
+        → OnePass table1 (again c (s .ops)) w1 work1 id pol w2 work2 g2 → Clears table1 preservedAt (c .count) table2 → SecondShown g2 (s .ops) (s .sorted) (s .bailed) r
         → length table1 ≡ length table → length w1 ≡ length w → length work1 ≡ length work → Canonicalizes table c w work id pol table2 w2 work2 r
     canonicalizes-twice {w2} {work2} {g2} {table2} {r} z two cl second len-f len-w len-h =
         let o = opened g (sym (f .is) ∙ told) in
-        let n : s .ops ≡ o .pass .ops = ap (λ (y : Shown). y .ops) (o .shows) in
-        let m : s .sorted ≡ o .pass .sorted = ap (λ (y : Shown). y .sorted) (o .shows) in
-        twice one (o .is) de z (subst (λ (k : ℕ). OnePass table1 (again c k) w1 work1 id pol w2 work2 g2) n two) cl
-        (subst (λ (b : Bool). SecondShown g2 (o .pass .ops) b r) m (subst (λ (k : ℕ). SecondShown g2 k (s .sorted) r) n second)) len-f len-w len-h
+        twice one (o .is) de z (subst (λ (y : Shown). OnePass table1 (again c (y .ops)) w1 work1 id pol w2 work2 g2) (o .shows) two) cl
+        (subst (λ (y : Shown). SecondShown g2 (y .ops) (y .sorted) (y .bailed) r) (o .shows) second) len-f len-w len-h

@@ -84,10 +84,10 @@ firstOf (Refused k) = RefusedR k
 pub record FirstShown (g : Given) (r : RootAnswer) : Type 0 where
   pub is : r ≡ firstOf g
 
--- the answer of the second pass, with what the first one counted
-pub record SecondShown (g : Given) (ops : ℕ) (sorted : Bool) (r : RootAnswer) : Type 0 where
+-- the answer of the second pass, with what the first one counted and marked
+pub record SecondShown (g : Given) (ops : ℕ) (sorted bailed : Bool) (r : RootAnswer) : Type 0 where
   pub is : {w : List ℕ} (o : Out ℕ) → Stores o w g → ops ≤ mostOperations → ((x : ℕ) (st : State) → o ≡ ok x st → st .ops ≤ mostOperations)
-      → RootIs (afterSecond ops sorted o) w r
+      → RootIs (afterSecond ops sorted bailed o) w r
 
 -- no variable is preserved before the first pass
 pub record NonePreserved (table : List ℕ) (count : ℕ) : Type 0 where

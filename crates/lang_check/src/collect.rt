@@ -493,9 +493,9 @@ fn first_shown(g: Given) -> RootAnswer
     }
 }
 
-// The answer of the second pass, with what the first one counted.
+// The answer of the second pass, with what the first one counted and marked.
 fn second_shown(g: Given, first: Shown) -> RootAnswer
-    ensures { λ r. ⌜ SecondShown g (first .ops) (first .sorted) r ⌝ }
+    ensures { λ r. ⌜ SecondShown g (first .ops) (first .sorted) (first .bailed) r ⌝ }
 {
     match g {
         Given::Node(x, q) => {
@@ -503,7 +503,7 @@ fn second_shown(g: Given, first: Shown) -> RootAnswer
                 passes: 2,
                 ops: add(first.ops, q.ops),
                 sorted: or(first.sorted, q.sorted),
-                bailed: q.bailed,
+                bailed: or(first.bailed, q.bailed),
                 node: x,
             };
             RootAnswer::Shown(s)

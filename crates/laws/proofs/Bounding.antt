@@ -48,7 +48,7 @@ unfolding decimal
 decimal-few n h = digits-few 9 n n (omega arith)
 
 -- the bytes of these texts, with one more for each
-abbrev weigh : List (List ℕ) → ℕ
+abbrev pub weigh : List (List ℕ) → ℕ
 weigh [] = 0
 weigh (f ∷ fs) = suc (length f) + weigh fs
 
@@ -56,7 +56,7 @@ parted-length : (sep : ℕ) (f : List ℕ) (fs : List (List ℕ)) → suc (lengt
 parted-length sep f [] = omega arith
 parted-length sep f (g ∷ fs) = let r = parted-length sep g fs in omega (arith, length-append f (sep ∷ parted sep (g ∷ fs)))
 
-line-length : (f : List ℕ) (fs : List (List ℕ)) → length (lineText (f ∷ fs)) ≡ weigh (f ∷ fs)
+pub line-length : (f : List ℕ) (fs : List (List ℕ)) → length (lineText (f ∷ fs)) ≡ weigh (f ∷ fs)
 line-length f fs = let r = parted-length tab f fs in omega (arith, length-append (parted tab (f ∷ fs)) (lineFeed ∷ []))
 
 list-length : (fs : List (List ℕ)) → suc (length (listText fs)) ≤ 2 + weigh fs

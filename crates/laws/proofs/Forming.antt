@@ -608,13 +608,13 @@ module _ (names : ℕ) (t : Reader) (id : ℕ) (pol : Polarity) where
       let m = visit-moves p t (b .tabled) mostKeys id pol (fresh (p .count)) x st h (steady-fresh (p .count)) rooted-none e in
       record { fine = f; rooted = m .2; below = m .1; ops = m .0 .counted (omega arith) }
 
-  after-second : (p : Pass) → FormedPass names p t → id < p .count → (ops : ℕ) → ops ≤ mostOperations → (sorted : Bool) (o : Out ℕ) → pass p t id pol ≡ o
-      → Tells names (Any names) o → Answers names (afterSecond ops sorted o)
-  after-second p b h ops l sorted (ok x st) e (gives f _) =
+  after-second : (p : Pass) → FormedPass names p t → id < p .count → (ops : ℕ) → ops ≤ mostOperations → (sorted bailed : Bool) (o : Out ℕ) → pass p t id pol ≡ o
+      → Tells names (Any names) o → Answers names (afterSecond ops sorted bailed o)
+  after-second p b h ops l sorted bailed (ok x st) e (gives f _) =
       let q = passed p b h x st e f in
-      shows {a = record { passes = 2; operations = ops + st .ops; sorted = sorted || st .sorted; bailed = st .bailed; nodes = st .nodes; root = x }}
+      shows {a = record { passes = 2; operations = ops + st .ops; sorted = sorted || st .sorted; bailed = bailed || st .bailed; nodes = st .nodes; root = x }}
       (record { once = omega arith; twice = omega arith; counted = omega (arith, q .ops); fine = f; rooted = q .rooted; below = q .below })
-  after-second p b h ops l sorted (no k) e (stops r) = stops r
+  after-second p b h ops l sorted bailed (no k) e (stops r) = stops r
 
   -- the second pass is over the same table
   formed-again : (p : Pass) (st : State) → FormedPass names p t → FormedPass names (withSet p st) t
@@ -630,7 +630,7 @@ module _ (names : ℕ) (t : Reader) (id : ℕ) (pol : Polarity) where
       let q = passed p b h x st e f in
       let c = formed-again p st b in
       by-branch (Answers names) (any _ (st .bits)) _ _
-      (after-second (withSet p st) c h (st .ops) (q .ops) (st .sorted) (pass (withSet p st) t id pol) refl (pass-tells names (withSet p st) t c id pol h))
+      (after-second (withSet p st) c h (st .ops) (q .ops) (st .sorted) (st .bailed) (pass (withSet p st) t id pol) refl (pass-tells names (withSet p st) t c id pol h))
       (shows {a = record { passes = 1; operations = st .ops; sorted = st .sorted; bailed = st .bailed; nodes = st .nodes; root = x }}
       (record { once = omega arith; twice = omega arith; counted = omega (arith, q .ops); fine = f; rooted = q .rooted; below = q .below }))
   after-first p b h (no k) e (stops r) = stops r

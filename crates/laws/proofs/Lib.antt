@@ -28,3 +28,4 @@ pub mod ReadRows
 pub mod PrintedListing
 pub mod OldListing
 pub mod Recheck
+pub mod Marking

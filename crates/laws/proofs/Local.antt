@@ -246,7 +246,7 @@ module _ (t t′ : Reader) (S : ℕ → Type 0) (closed : (id : ℕ) → S id �
 
   after-local : (p : Pass) (id : ℕ) (pol : Polarity) → S id → (o : Out ℕ) → afterFirst p t id pol o ≡ afterFirst p t′ id pol o
   after-local p id pol s (no k) = refl
-  after-local p id pol s (ok x st) = λ i. if (any isBoth (st .bits)) (λ _. afterSecond (st .ops) (st .sorted) (pass-local (withSet p st) id pol s i))
+  after-local p id pol s (ok x st) = λ i. if (any isBoth (st .bits)) (λ _. afterSecond (st .ops) (st .sorted) (st .bailed) (pass-local (withSet p st) id pol s i))
       (λ _. shown (record { passes = 1; operations = st .ops; sorted = st .sorted; bailed = st .bailed; nodes = st .nodes; root = x }))
 
   pub canonicalize-local : (p : Pass) (id : ℕ) (pol : Polarity) → S id → canonicalize p t id pol ≡ canonicalize p t′ id pol

@@ -1,3 +1,4 @@
 -- What the contracts assume and the laws show.
 pub mod Sound
 pub mod Indexed
+pub mod Marks

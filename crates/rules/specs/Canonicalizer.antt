@@ -439,7 +439,7 @@ fresh n = record { nodes = []; cells = 0; keys = replicate (2 * n) 0; bits = rep
 unfoldable pub pass : Pass → Reader → ℕ → Polarity → Out ℕ
 pass p t id pol = visit mostKeys p t id pol (fresh (p .count))
 
--- what is shown of a root: its passes, the operations of both, sorted in either, bailed in the pass shown, that pass's nodes and the root's node
+-- what is shown of a root: its passes, the operations of both, sorted in either, bailed in either, the nodes of the pass shown and the root's node
 pub record Shown : Type 0 where
   pub passes : ℕ
   pub operations : ℕ
@@ -453,15 +453,16 @@ pub data Answer : Type 0 where
   shown : Shown → Answer
   refusedWith : ℕ → Answer
 
--- "its answer is the one shown"
-abbrev pub afterSecond : ℕ → Bool → Out ℕ → Answer
-afterSecond ops sorted (no k) = refusedWith k
-afterSecond ops sorted (ok x s) =
+-- "its answer is the one shown", with what the first pass counted and marked: "the mark is 1 if either pass bailed" (request 2), since
+-- the set of a first pass that bailed is not the whole one
+abbrev pub afterSecond : ℕ → Bool → Bool → Out ℕ → Answer
+afterSecond ops sorted bailed (no k) = refusedWith k
+afterSecond ops sorted bailed (ok x s) =
     shown (record {
       passes = 2;
       operations = ops + s .ops;
       sorted = sorted || s .sorted;
-      bailed = s .bailed;
+      bailed = bailed || s .bailed;
       nodes = s .nodes;
       root = x;
     })
@@ -481,7 +482,7 @@ withSet p s = record {
 abbrev pub afterFirst : Pass → Reader → ℕ → Polarity → Out ℕ → Answer
 afterFirst p t id pol (no k) = refusedWith k
 afterFirst p t id pol (ok x s) =
-    if (any isBoth (s .bits)) (λ _. afterSecond (s .ops) (s .sorted) (pass (withSet p s) t id pol))
+    if (any isBoth (s .bits)) (λ _. afterSecond (s .ops) (s .sorted) (s .bailed) (pass (withSet p s) t id pol))
     (λ _. shown (record { passes = 1; operations = s .ops; sorted = s .sorted; bailed = s .bailed; nodes = s .nodes; root = x }))
 
 -- canonicalize_standalone_with_deadline

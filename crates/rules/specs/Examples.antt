@@ -1,11 +1,13 @@
 -- Worked examples, from table text to listing text, as one table with a single theorem: those of the scope document, then some for the
 -- rules that those do not show.
 use mathlib.Core.Path.{_≡_, refl}
-use Prim.Native.Nat.{ℕ}
+use Prim.Native.Nat.{ℕ, zero, suc}
 use Prim.Native.String.{String}
-use mathlib.Core.List.{List, [], _∷_, map}
+use mathlib.Core.List.{List, [], _∷_, _++_, map}
+use lib.ListN.{replicate}
 use Rattle.rules.specs.Plain.{ascii, joined}
 use Rattle.rules.specs.Text.{pieces, digit, number, decimal, hex, escaped, name, fieldOf, rowOf, rowTexts, fieldText}
+use Rattle.rules.specs.Text.{comma, parted, lineText}
 use Rattle.rules.specs.Table.{sectionOf, attrAt, entryOf, step, inTable, sectionsOf, tableOf, representatives}
 use Rattle.rules.specs.Types.{store, limit}
 use Rattle.rules.specs.Order.{order, sort}
@@ -25,6 +27,17 @@ pub record Example : Type 0 where
 -- a text given in pieces
 abbrev bytes : List String → List ℕ
 bytes pieces = joined (map ascii pieces)
+
+-- n variables, of which the first is entry b: the next one flows into each of them 16 times, the most that are not deduplicated
+abbrev chained : ℕ → ℕ → List ℕ
+chained zero b = []
+chained (suc n) b = lineText (ascii "var" ∷ parted comma (replicate 16 (decimal (suc b))) ∷ ascii "-" ∷ []) ++ chained n (suc b)
+
+-- roots 0 and 6: variables 24 or 40 in both places; then variable 8, whose chain spends the budget; then K1's, entry 3
+abbrev spending : String → String → List ℕ
+spending budget roots =
+    bytes (budget ∷ "fn\t1\t2\nfn\t24\t24\nfn\t8\t3\nfn\t4\t4\nvar\t5\t-\nprim\t0\nfn\t7\t2\nfn\t40\t40\n" ∷ [])
+    ++ chained 32 8 ++ bytes ("var\t-\t-\n" ∷ roots ∷ [])
 
 abbrev pub examples : List Example
 examples =
@@ -182,6 +195,19 @@ examples =
     ∷ record {
       table = ascii "budget\t4294967295\nvar\t-\t-\nvar\t0\t-\nfn\t0\t1\nroot\t2\t+\n";
       listing = ascii "answers\t1\nroot\t2\t+\t2\t8\t0\t0\t2\n0\ttyvar\t0\n1\tfn\t0\t0\n";
+    }
+    -- root 0: the first pass bails before it comes to entry 3, and the second, which does not, shows K1 as if its variable were not in both
+    -- places: bailed. Root 6: both passes bail
+    ∷ record {
+      table = spending "budget\t511\n" "root\t0\t+\nroot\t6\t+\n";
+      listing = bytes ("answers\t2\nroot\t0\t+\t2\t779\t0\t1\t6\n0\ttyvar\t24\n1\tfn\t0\t0\n2\tprim\t0\n3\tfn\t2\t2\n4\tfn\t0\t3\n5\tfn\t1\t4\n"
+          ∷ "root\t6\t+\t2\t1024\t0\t1\t5\n0\ttyvar\t40\n1\tfn\t0\t0\n2\ttyvar\t3\n3\tfn\t0\t2\n4\tfn\t1\t3\n" ∷ []);
+    }
+    -- root 0: neither bails, and K1 is as it should be. Root 6: only the second pass bails
+    ∷ record {
+      table = spending "budget\t600\n" "root\t0\t+\nroot\t6\t+\n";
+      listing = bytes ("answers\t2\nroot\t0\t+\t2\t805\t0\t0\t8\n0\ttyvar\t24\n1\tfn\t0\t0\n2\ttyvar\t4\n3\tprim\t0\n4\tunion\t2,3\n5\tfn\t2\t4\n6\tfn\t0\t5\n7\tfn\t1\t6\n"
+          ∷ "root\t6\t+\t2\t1035\t0\t1\t5\n0\ttyvar\t40\n1\tfn\t0\t0\n2\ttyvar\t3\n3\tfn\t0\t2\n4\tfn\t1\t3\n" ∷ []);
     }
     ∷ []
 

@@ -19,6 +19,10 @@ pub struct Comparison {
     /// Roots asked for one by one.
     single: u64,
     pub roots: u64,
+    /// Roots with the bailed mark, and those that have it of the first pass
+    /// alone.
+    bailed: u64,
+    first_alone: u64,
     pub faults: Faults,
 }
 
@@ -30,6 +34,8 @@ impl Comparison {
             by_kind: vec![Counts::default(); join::kinds().count()],
             single: 0,
             roots: 0,
+            bailed: 0,
+            first_alone: 0,
             faults: Faults::default(),
         }
     }
@@ -53,6 +59,7 @@ impl Comparison {
         for (block, root) in blocks.iter().zip(&theirs) {
             let verdict = judge(block, root);
             self.by_kind[kind].add(verdict, 1);
+            self.count_bails(block, root);
             if verdict == Verdict::Differs {
                 self.fail(name, &text, &difference(block, root));
             }
@@ -60,6 +67,14 @@ impl Comparison {
         // Where the Rust has no answer, one call is held against the other.
         if single || too_long(&theirs) > 0 {
             self.singles(name, &text, &theirs, &blocks);
+        }
+    }
+
+    /// Of a root that both have answered.
+    fn count_bails(&mut self, block: &[u8], root: &RootAnswer) {
+        if let (Answer::Shown(shown), None) = (&root.answer, lines::root_refusal(block)) {
+            self.bailed += u64::from(shown.bailed);
+            self.first_alone += u64::from(shown.first_alone);
         }
     }
 
@@ -133,6 +148,10 @@ impl Comparison {
         println!(
             "{} roots compared; {} of them once more by canon_root",
             self.roots, self.single
+        );
+        println!(
+            "{} of them have the bailed mark, {} by the first pass alone",
+            self.bailed, self.first_alone
         );
     }
 }

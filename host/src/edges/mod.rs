@@ -11,6 +11,7 @@ mod form;
 mod index;
 mod keys;
 mod ladders;
+mod marks;
 mod members;
 mod nodes;
 mod orders;
@@ -30,7 +31,7 @@ use confirm::confirm;
 use edge::{Edge, Edges, Expect};
 
 /// The edges of canon, by their subject.
-const SUBJECTS: [fn(&mut Edges); 18] = [
+const SUBJECTS: [fn(&mut Edges); 19] = [
     ceilings::text_length,
     ceilings::ceilings,
     form::form,
@@ -40,6 +41,7 @@ const SUBJECTS: [fn(&mut Edges); 18] = [
     orders::on_a_line,
     orders::of_lines,
     keys::keys,
+    marks::bails,
     members::members,
     nodes::nodes,
     nodes::cells,

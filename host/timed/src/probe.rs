@@ -10,7 +10,7 @@ pub struct Record {
     pub passes: u32,
     pub operations: u64,
     pub bailed: bool,
-    pub first_bailed: bool,
+    pub first_alone: bool,
     pub sorted: bool,
     pub endless: bool,
     pub keys: usize,
@@ -32,7 +32,7 @@ struct Facts {
     operations: Cell<u64>,
     passes: Cell<u32>,
     bailed: Cell<bool>,
-    first_bailed: Cell<bool>,
+    first_alone: Cell<bool>,
     sorted: Cell<bool>,
     endless: Cell<bool>,
     chain: Cell<u32>,
@@ -45,7 +45,7 @@ thread_local! {
             operations: Cell::new(0),
             passes: Cell::new(0),
             bailed: Cell::new(false),
-            first_bailed: Cell::new(false),
+            first_alone: Cell::new(false),
             sorted: Cell::new(false),
             endless: Cell::new(false),
             chain: Cell::new(0),
@@ -59,7 +59,7 @@ pub fn start(budget: u64) {
         f.operations.set(0);
         f.passes.set(0);
         f.bailed.set(false);
-        f.first_bailed.set(false);
+        f.first_alone.set(false);
         f.sorted.set(false);
         f.endless.set(false);
         f.chain.set(0);
@@ -71,7 +71,7 @@ pub fn record() -> Record {
         passes: f.passes.get(),
         operations: f.operations.get(),
         bailed: f.bailed.get(),
-        first_bailed: f.first_bailed.get(),
+        first_alone: f.first_alone.get(),
         sorted: f.sorted.get(),
         endless: f.endless.get(),
         ..Record::default()
@@ -90,9 +90,8 @@ pub fn over_budget() -> bool {
 pub fn pass(bailed: bool) {
     FACTS.with(|f| {
         f.passes.set(f.passes.get() + 1);
-        f.bailed.set(bailed);
-        f.first_bailed
-            .set(f.first_bailed.get() || bailed && f.passes.get() == 1);
+        f.first_alone.set(f.bailed.get() && !bailed);
+        f.bailed.set(f.bailed.get() || bailed);
     });
 }
 

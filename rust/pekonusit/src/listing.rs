@@ -37,7 +37,7 @@ pub struct Shown {
     pub operations: u32,
     /// Shared members stand in our order.
     pub sorted: bool,
-    /// The pass shown ran out of budget.
+    /// A pass ran out of budget, the first or the second.
     pub bailed: bool,
     pub nodes: Vec<Node>,
 }

@@ -44,7 +44,12 @@ impl Edges<'_> {
 
     /// The one root is run again, whatever the old listing has of it.
     pub fn redone(&mut self, name: &str, input: &Input, listing: &[u8]) {
-        let text = [&b"redone\n"[..], listing].concat();
+        self.answers(name, input, "redone\n", listing);
+    }
+
+    /// The first line, and the listing after it.
+    pub fn answers(&mut self, name: &str, input: &Input, first: &str, listing: &[u8]) {
+        let text = [first.as_bytes(), listing].concat();
         let mut out = vec![0xa5; text.len()];
         watch::begin(&input.text());
         let outcome = self.recheck.recheck(input, &mut out);

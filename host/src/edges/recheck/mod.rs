@@ -6,6 +6,7 @@ mod index;
 mod ladders;
 mod lengths;
 mod listing;
+mod marks;
 mod tables;
 
 use crate::calls::Recheck;
@@ -24,6 +25,7 @@ pub fn run(tally: &mut Tally) {
     tables::differing_lines(&mut edges);
     tables::orders(&mut edges);
     ladders::ladders(&mut edges);
+    marks::marks(&mut edges);
     index::index(&mut edges);
     lengths::listings(&mut edges);
     lengths::short_scratch(&mut edges);

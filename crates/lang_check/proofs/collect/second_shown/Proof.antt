@@ -11,4 +11,4 @@ returns-2 c = search second-refused
 
 pub second-shown-spec : {M : Type 1} → statement M
 second-shown-spec =
-    tie.close (tie.spec (λ c. search needs) (λ c _. search needs) (λ c _. search needs) (λ c. search needs) returns returns-2)
+    tie.close (tie.spec (λ c. search needs) (λ c _. search needs) (λ c _. search needs) (λ c _. search needs) (λ c. search needs) returns returns-2)
