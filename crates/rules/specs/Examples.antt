@@ -203,11 +203,10 @@ examples =
       listing = bytes ("answers\t2\nroot\t0\t+\t2\t779\t0\t1\t6\n0\ttyvar\t24\n1\tfn\t0\t0\n2\tprim\t0\n3\tfn\t2\t2\n4\tfn\t0\t3\n5\tfn\t1\t4\n"
           ∷ "root\t6\t+\t2\t1024\t0\t1\t5\n0\ttyvar\t40\n1\tfn\t0\t0\n2\ttyvar\t3\n3\tfn\t0\t2\n4\tfn\t1\t3\n" ∷ []);
     }
-    -- root 0: neither bails, and K1 is as it should be. Root 6: only the second pass bails
+    -- root 6 with more budget: only the second pass bails
     ∷ record {
-      table = spending "budget\t600\n" "root\t0\t+\nroot\t6\t+\n";
-      listing = bytes ("answers\t2\nroot\t0\t+\t2\t805\t0\t0\t8\n0\ttyvar\t24\n1\tfn\t0\t0\n2\ttyvar\t4\n3\tprim\t0\n4\tunion\t2,3\n5\tfn\t2\t4\n6\tfn\t0\t5\n7\tfn\t1\t6\n"
-          ∷ "root\t6\t+\t2\t1035\t0\t1\t5\n0\ttyvar\t40\n1\tfn\t0\t0\n2\ttyvar\t3\n3\tfn\t0\t2\n4\tfn\t1\t3\n" ∷ []);
+      table = spending "budget\t600\n" "root\t6\t+\n";
+      listing = ascii "answers\t1\nroot\t6\t+\t2\t1035\t0\t1\t5\n0\ttyvar\t40\n1\tfn\t0\t0\n2\ttyvar\t3\n3\tfn\t0\t2\n4\tfn\t1\t3\n";
     }
     ∷ []
 

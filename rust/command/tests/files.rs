@@ -11,6 +11,7 @@ const TALK_SHOW: &str = "examples/talk-show.table";
 const TWO_SHOWS: &str = "examples/two-shows.table";
 const EDITED: &str = "examples/two-shows-edited.table";
 const LISTING: &str = "examples/two-shows.listing";
+const BAILED: &str = "examples/bailed.table";
 
 const ANSWER: &str =
     "answers>1\nroot>5>+>1>9>0>0>4\n0>prim>0\n1>set>0:0,1:0>->1>-\n2>list>0\n3>fn>1>2\n";
@@ -27,6 +28,15 @@ fn canon_shows_signatures() {
     let ran = run(&["canon", "--show", TALK_SHOW, EDITED]);
     let shown = "examples/talk-show.table\n  root 5 +  { actual : Int, planned : Int, .. } -> [Int]\n\
                  examples/two-shows-edited.table\n  root 5 +  { actual? : Int, planned : Int, .. } -> [Int]\n  root 2 +  [Int]\n";
+    assert_eq!((ran.out.as_str(), ran.status), (shown, Some(0)));
+}
+
+#[test]
+fn canon_tells_that_a_budget_ran_out() {
+    let ran = run(&["canon", "--show", BAILED]);
+    let shown =
+        "examples/bailed.table\n  root 0 + (budget ran out)  (a -> a) -> a -> Int -> Int\n  \
+                 root 6 + (budget ran out)  (a -> a) -> a -> b\n";
     assert_eq!((ran.out.as_str(), ran.status), (shown, Some(0)));
 }
 
