@@ -13,7 +13,7 @@ use Rattle.rules.specs.Canonicalizer.{Pass, Reader, isBoth, pass, Answer, shown
 use Rattle.rules.specs.Types.{polarityOf}
 use Rattle.rules.specs.Listing.{rootHead, headKinds, headText, nodeTexts, walk, answerText, answersText, rootText, rootTextOf, listingText}
 use Rattle.rules.specs.declared.Polarity.{Polarity}
-use Rattle.laws.specs.Marks.{ofBoth, afterSecondAlone, afterFirstAlone, answerAlone, listingAlone, didBail, markedToo, Moves, stays, rises}
+use Rattle.laws.specs.Marks.{ofOne, ofBoth, afterSecondAlone, afterFirstAlone, answerAlone, listingAlone, didBail, markedToo, Moves, stays, rises}
 use Rattle.laws.proofs.Bounding.{weigh, line-length}
 
 or-self : (b : Bool) → b ≡ b || b
@@ -33,13 +33,10 @@ module _ (p : Pass) (t : Reader) (id : ℕ) (pol : Polarity) where
   first-marked (no k) = refl
   first-marked (ok x s) = turn (any isBoth (s .bits))
     where
-      once : Bool → Answer
-      once mark = shown (record { passes = 1; operations = s .ops; sorted = s .sorted; bailed = mark; nodes = s .nodes; root = x })
-
-      turn : (b : Bool) → if b (λ _. afterSecond (s .ops) (s .sorted) (s .bailed) (pass (withSet p s) t id pol)) (λ _. once (s .bailed))
-          ≡ markedToo (s .bailed) (if b (λ _. afterSecondAlone s (pass (withSet p s) t id pol)) (λ _. once (s .bailed)))
+      turn : (b : Bool) → if b (λ _. afterSecond (s .ops) (s .sorted) (s .bailed) (pass (withSet p s) t id pol)) (λ _. shown (ofOne x s (s .bailed)))
+          ≡ markedToo (s .bailed) (if b (λ _. afterSecondAlone s (pass (withSet p s) t id pol)) (λ _. shown (ofOne x s (s .bailed))))
       turn true = second-marked s (pass (withSet p s) t id pol)
-      turn false = ap once (or-self (s .bailed))
+      turn false = ap (λ (mark : Bool). shown (ofOne x s mark)) (or-self (s .bailed))
 
   -- by the bails of both passes
   module _ {x y : ℕ} {s u : State} (e : pass p t id pol ≡ ok x s) (f : pass (withSet p s) t id pol ≡ ok y u) where
@@ -62,11 +59,8 @@ module _ (p : Pass) (t : Reader) (id : ℕ) (pol : Polarity) where
   first-moves (no k) e = stays
   first-moves (ok x s) e = turn (any isBoth (s .bits))
     where
-      once : Answer
-      once = shown (record { passes = 1; operations = s .ops; sorted = s .sorted; bailed = s .bailed; nodes = s .nodes; root = x })
-
-      turn : (b : Bool) → Moves p t id pol (if b (λ _. afterSecondAlone s (pass (withSet p s) t id pol)) (λ _. once))
-          (if b (λ _. afterSecond (s .ops) (s .sorted) (s .bailed) (pass (withSet p s) t id pol)) (λ _. once))
+      turn : (b : Bool) → Moves p t id pol (if b (λ _. afterSecondAlone s (pass (withSet p s) t id pol)) (λ _. shown (ofOne x s (s .bailed))))
+          (if b (λ _. afterSecond (s .ops) (s .sorted) (s .bailed) (pass (withSet p s) t id pol)) (λ _. shown (ofOne x s (s .bailed))))
       turn true = second-moves e (pass (withSet p s) t id pol) refl
       turn false = stays
 

@@ -13,6 +13,10 @@ use Rattle.rules.specs.Listing.{answerText, answersText}
 use Rattle.rules.specs.Types.{polarityOf}
 use Rattle.rules.specs.declared.Polarity.{Polarity}
 
+-- what one pass shows, s its state, with this mark
+abbrev pub ofOne : ℕ → State → Bool → Shown
+ofOne x s mark = record { passes = 1; operations = s .ops; sorted = s .sorted; bailed = mark; nodes = s .nodes; root = x }
+
 -- what two passes show, s the first one's state and u the second one's, with this mark
 abbrev pub ofBoth : State → ℕ → State → Bool → Shown
 ofBoth s y u mark = record { passes = 2; operations = s .ops + u .ops; sorted = s .sorted || u .sorted; bailed = mark; nodes = u .nodes; root = y }
@@ -25,8 +29,7 @@ afterSecondAlone s (ok y u) = shown (ofBoth s y u (u .bailed))
 abbrev pub afterFirstAlone : Pass → Reader → ℕ → Polarity → Out ℕ → Answer
 afterFirstAlone p t id pol (no k) = refusedWith k
 afterFirstAlone p t id pol (ok x s) =
-    if (any isBoth (s .bits)) (λ _. afterSecondAlone s (pass (withSet p s) t id pol))
-    (λ _. shown (record { passes = 1; operations = s .ops; sorted = s .sorted; bailed = s .bailed; nodes = s .nodes; root = x }))
+    if (any isBoth (s .bits)) (λ _. afterSecondAlone s (pass (withSet p s) t id pol)) (λ _. shown (ofOne x s (s .bailed)))
 
 -- the answer of a root of a table as it was
 abbrev pub answerAlone : Table → ℕ → Polarity → Answer
