@@ -62,7 +62,7 @@ pub enum Given {
     Refused(u32),
 }
 
-// What a root is answered with: passes, operations of both, the sorted mark of either, whether the pass shown bailed, and the node.
+// What a root is answered with: passes, operations of both, the sorted mark of either, the bailed mark of either, and the node.
 pub struct Shown {
     pub passes: u32,
     pub ops: u32,

@@ -24,11 +24,11 @@ or-second : (a b : Bool) → b ≡ true → b ≡ a || b
 or-second true b e = e
 or-second false b e = refl
 
-module _ (p : Pass) (t : Reader) (id : ℕ) (pol : Polarity) where
-  second-marked : (s : State) (o : Out ℕ) → afterSecond (s .ops) (s .sorted) (s .bailed) o ≡ markedToo (s .bailed) (afterSecondAlone s o)
-  second-marked s (no k) = refl
-  second-marked s (ok y u) = refl
+second-marked : (s : State) (o : Out ℕ) → afterSecond (s .ops) (s .sorted) (s .bailed) o ≡ markedToo (s .bailed) (afterSecondAlone s o)
+second-marked s (no k) = refl
+second-marked s (ok y u) = refl
 
+module _ (p : Pass) (t : Reader) (id : ℕ) (pol : Polarity) where
   first-marked : (o : Out ℕ) → afterFirst p t id pol o ≡ markedToo (didBail o) (afterFirstAlone p t id pol o)
   first-marked (no k) = refl
   first-marked (ok x s) = turn (any isBoth (s .bits))

@@ -454,7 +454,7 @@ pub data Answer : Type 0 where
   refusedWith : ℕ → Answer
 
 -- "its answer is the one shown", with what the first pass counted and marked: "the mark is 1 if either pass bailed" (request 2), since
--- the set of a first pass that bailed is not the whole one
+-- the set of a first pass that bailed may not be the whole one
 abbrev pub afterSecond : ℕ → Bool → Bool → Out ℕ → Answer
 afterSecond ops sorted bailed (no k) = refusedWith k
 afterSecond ops sorted bailed (ok x s) =
