@@ -13,6 +13,8 @@ use Rattle.rules.specs.Text.{lineText}
 use Rattle.rules.specs.Table.{Root, rootOf}
 use Rattle.rules.specs.Table as rules
 use Rattle.rules.specs.Listing.{rootTextOf, answersText, listingText}
+use Rattle.rules.specs.declared.Form.{Form}
+use Rattle.rules.specs.declared.Form.the-variants.{Plain}
 use Rattle.rules.specs.Calls.{redone, redoneWord, rechecked, recheckText}
 use Rattle.prepare.specs.declared.Prepared.{Prepared}
 use Rattle.prepare.specs.Prepares.{rootAt}
@@ -43,17 +45,17 @@ lying-old : {listing old : List ℕ} {texts : List (List ℕ)} {n : ℕ} → Old
 lying-old l = record { is = λ i lt k. (l .within i lt, l .short) }
 
 -- the lines of all roots are the rules' listing
-all-is : (listing old : List ℕ) {T : rules.Table} {table arena work : List ℕ} {g : Prepared} → Running T g table arena work
-    → allLines listing old false T table g ≡ listingText T
+all-is : (form : Form) (listing old : List ℕ) {T : rules.Table} {table arena work : List ℕ} {g : Prepared} → Running T g table arena work
+    → allLines listing old false form T table g ≡ listingText form T
 unfolding listingText
-all-is listing old {T} {table = table} {g = g} u =
+all-is form listing old {T} {table = table} {g = g} u =
     let many = roots-many u in
-    let texts : run (λ (i : ℕ). rootTextOf T (rootAt table (g .first + i))) 0 (g .roots) ≡ map (rootTextOf T) (T .roots) =
-    sym (ap (map (rootTextOf T)) (roots-read u) ∙ map-run (rootTextOf T) _ 0 (g .roots)) in
-    λ j. answersText (sym many j) ++ joined (texts j)
+    let texts : run (λ (i : ℕ). rootTextOf form T (rootAt table (g .first + i))) 0 (g .roots) ≡ map (rootTextOf form T) (T .roots) =
+    sym (ap (map (rootTextOf form T)) (roots-read u) ∙ map-run (rootTextOf form T) _ 0 (g .roots)) in
+    λ j. answersText form (sym many j) ++ joined (texts j)
 
 -- and after a line of `kept` or `redone` for each root the rules' text of recheck
-module _ {T₁ T₂ : rules.Table} {listing old table arena work : List ℕ} {texts : List (List ℕ)} {g : Prepared}
+module _ (form : Form) {T₁ T₂ : rules.Table} {listing old table arena work : List ℕ} {texts : List (List ℕ)} {g : Prepared}
     (u : Running T₂ g table arena work) (h : Noted T₁ T₂ listing texts old (g .roots)) where
   abbrev root : ℕ → Root
   root i = rootAt table (g .first + i)
@@ -72,9 +74,9 @@ module _ {T₁ T₂ : rules.Table} {listing old table arena work : List ℕ} {te
 
   -- the lines of each root of a run, by the rules
   abbrev linesBy : ℕ → List ℕ
-  linesBy i = if (redone T₁ T₂ (root i)) (λ _. rootTextOf T₂ (root i)) (λ _. spanAt listing old i)
+  linesBy i = if (redone T₁ T₂ (root i)) (λ _. rootTextOf form T₂ (root i)) (λ _. spanAt listing old i)
 
-  rechecked-run : (a n : ℕ) → rechecked T₁ T₂ (run root a n) (run (spanAt listing old) a n) ≡ run linesBy a n
+  rechecked-run : (a n : ℕ) → rechecked form T₁ T₂ (run root a n) (run (spanAt listing old) a n) ≡ run linesBy a n
   rechecked-run a zero = refl
   rechecked-run a (suc n) = ap (λ (l : List (List ℕ)). linesBy a ∷ l) (rechecked-run (suc a) n)
 
@@ -82,37 +84,37 @@ module _ {T₁ T₂ : rules.Table} {listing old table arena work : List ℕ} {te
   turned b true x y e = ap (λ (z : Bool). if z (λ _. x) (λ _. y)) e
   turned b false x y e = ap (λ (z : Bool). if z (λ _. x) (λ _. y)) e
 
-  lines-are : run (linesAt listing old true T₂ table (g .first)) 0 (g .roots) ≡ rechecked T₁ T₂ (T₂ .roots) texts
+  lines-are : run (linesAt listing old true form T₂ table (g .first)) 0 (g .roots) ≡ rechecked form T₁ T₂ (T₂ .roots) texts
   lines-are =
-      run-ext (linesAt listing old true T₂ table (g .first)) linesBy 0 (g .roots)
-      (λ i low lt. turned (keptAt old true i) (redone T₁ T₂ (root i)) (spanAt listing old i) (rootTextOf T₂ (root i)) (kept-redone i (omega arith)))
+      run-ext (linesAt listing old true form T₂ table (g .first)) linesBy 0 (g .roots)
+      (λ i low lt. turned (keptAt old true i) (redone T₁ T₂ (root i)) (spanAt listing old i) (rootTextOf form T₂ (root i)) (kept-redone i (omega arith)))
       ∙ sym (rechecked-run 0 (g .roots))
-      ∙ ap₂ {C = List (List ℕ)} (rechecked T₁ T₂) (sym (roots-read u)) (h .lines .are)
+      ∙ ap₂ {C = List (List ℕ)} (rechecked form T₁ T₂) (sym (roots-read u)) (h .lines .are)
 
-  mixed-is : lineText (run (wordAt old) 0 (g .roots)) ++ allLines listing old true T₂ table g ≡ recheckText T₁ T₂ texts
+  mixed-is : lineText (run (wordAt old) 0 (g .roots)) ++ allLines listing old true form T₂ table g ≡ recheckText form T₁ T₂ texts
   unfolding recheckText
   mixed-is =
       let many = roots-many u in
-      sym (append-assoc (lineText (run (wordAt old) 0 (g .roots))) (answersText (g .roots)) _)
-      ∙ (λ j. lineText (words-are j) ++ answersText (sym many j) ++ joined (lines-are j))
+      sym (append-assoc (lineText (run (wordAt old) 0 (g .roots))) (answersText form (g .roots)) _)
+      ∙ (λ j. lineText (words-are j) ++ answersText form (sym many j) ++ joined (lines-are j))
 
 -- each way out of `write_asked`
 module _ {listing old table arena work o table′ o′ : List ℕ} {g : Prepared} {asked : Asked} {r : ℕ} where
   asks : {a : Asked} → asked ≡ a → WritesAsked listing old table g arena work a o table′ o′ r → WritesAsked listing old table g arena work asked o table′ o′ r
   asks e = subst (λ (a : Asked). WritesAsked listing old table g arena work a o table′ o′ r) (sym e)
 
-  pub all-asked : asked ≡ All → WritesRoots listing old false table g arena work 0 o table′ o′ r → WritesAsked listing old table g arena work asked o table′ o′ r
-  all-asked e w =
+  pub all-asked : {form : Form} → asked ≡ All form → WritesRoots listing old false table g arena work form 0 o table′ o′ r → WritesAsked listing old table g arena work asked o table′ o′ r
+  all-asked {form} e w =
       asks e
       (record {
         is = λ {T} t u h.
             let a = w .is u lying-none in
-            let whole : allLines listing old false T table g ≡ t = all-is listing old u ∙ sym h in
+            let whole : allLines listing old false form T table g ≡ t = all-is form listing old u ∙ sym h in
             text-written (wrote-as (a .wrote) whole) (omega (arith, a .short, ap length whole));
         kept = λ t u h. w .kept u lying-none;
       })
 
-  pub root-asked : {id sign : ℕ} → asked ≡ RootA id sign → WritesRoot table g arena work 0 id sign o table′ o′ r
+  pub root-asked : {id sign : ℕ} → asked ≡ RootA id sign → WritesRoot table g arena work Plain 0 id sign o table′ o′ r
       → WritesAsked listing old table g arena work asked o table′ o′ r
   root-asked e w =
       asks e
@@ -121,17 +123,17 @@ module _ {listing old table arena work o table′ o′ : List ℕ} {g : Prepared
         kept = λ t u h. w .kept u;
       })
 
-  pub mixed-asked : {o₁ : List ℕ} {p : ℕ} → asked ≡ Mixed → Wrote (lineText (run (wordAt old) 0 (g .roots))) 0 o o₁ p
-      → WritesRoots listing old true table g arena work p o₁ table′ o′ r → WritesAsked listing old table g arena work asked o table′ o′ r
-  mixed-asked e words w =
+  pub mixed-asked : {form : Form} {o₁ : List ℕ} {p : ℕ} → asked ≡ Mixed form → Wrote (lineText (run (wordAt old) 0 (g .roots))) 0 o o₁ p
+      → WritesRoots listing old true table g arena work form p o₁ table′ o′ r → WritesAsked listing old table g arena work asked o table′ o′ r
+  mixed-asked {form} e words w =
       asks e
       (record {
         is = λ {T} t u h.
             let a = w .is u (lying-old (h .noted .lines)) in
             let line = lineText (run (wordAt old) 0 (g .roots)) in
-            let whole : line ++ allLines listing old true T table g ≡ t = mixed-is u (h .noted) ∙ sym (h .is) in
+            let whole : line ++ allLines listing old true form T table g ≡ t = mixed-is form u (h .noted) ∙ sym (h .is) in
             text-written (wrote-as (wrote-more words (a .wrote)) whole)
-            (omega (arith, ap length whole, length-append line (allLines listing old true T table g), line-short old (g .roots), a .short, few-roots u));
+            (omega (arith, ap length whole, length-append line (allLines listing old true form T table g), line-short old (g .roots), a .short, few-roots u));
         kept = λ t u h. w .kept u (lying-old (h .noted .lines));
       })
 

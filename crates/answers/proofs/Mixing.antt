@@ -5,7 +5,6 @@ use Prim.Native.Nat.{ℕ, zero, suc, _+_, _-_, _*_, _≤_, _<_}
 use native.Mathlib.Omega.{arith}
 use mathlib.Core.List.{List, [], _∷_, _++_, append-assoc, append-nil}
 use lib.ListN.{length, take, drop, length-append}
-use lib.Seq.{drop-cons}
 use lib.Dec.{eqb}
 use borrow.Author.Tests.{eq-eqb, ne-eqb}
 use Rattle.cells.specs.Part.{if, cell, part, run}
@@ -16,11 +15,12 @@ use Rattle.rules.specs.Ceilings.{mostRoots}
 use Rattle.rules.specs.Text.{tab, parted, lineText}
 use Rattle.rules.specs.Table as rules
 use Rattle.rules.specs.Listing.{rootText, rootTextOf, answersText}
+use Rattle.rules.specs.declared.Form.{Form}
 use Rattle.rules.specs.Calls.{redoneWord}
 use Rattle.laws.specs.Sound.{mostRootText}
 use Rattle.laws.proofs.Bounding.{answers-bounded}
 use Rattle.text.specs.Reads.{span, spanAt}
-use Rattle.text.proofs.Spans.{span-none, span-length}
+use Rattle.text.proofs.Spans.{span-none, span-length, part-taken}
 use Rattle.prepare.specs.declared.Prepared.{Prepared}
 use Rattle.prepare.specs.Prepares.{rootAt}
 use Rattle.listing.specs.Writes.{Wrote}
@@ -120,11 +120,6 @@ pub line-short : (old : List ℕ) (n : ℕ) → length (lineText (run (wordAt ol
 line-short old n = omega (arith, words-short old n, length-append (parted tab (run (wordAt old) 0 n)) (10 ∷ []))
 
 -- each way out of `write_old`
-part-taken : (s : List ℕ) (a n : ℕ) → a + n ≤ length s → take n (drop a s) ≡ part s a n
-part-taken s a zero h = refl
-part-taken s a (suc n) h =
-    ap (take (suc n)) (drop-cons s a 0 (omega arith)) ∙ ap (λ (l : List ℕ). cell s a ∷ l) (part-taken s (suc a) n (omega arith))
-
 module _ {listing : List ℕ} {p from to : ℕ} {o : List ℕ} where
   pub old-none : to < from → WritesOld listing p from to o o p
   old-none h = record { is = λ l. wrote-as (wrote-none p o) (sym (span-none listing from to (omega arith))) }
@@ -136,15 +131,15 @@ module _ {listing : List ℕ} {p from to : ℕ} {o : List ℕ} where
   old-some h w = record { is = λ l. wrote-as w (part-taken listing from (to - from) (omega arith)) }
 
 -- each way out of `write_root`: by the root's flag, and by the cells of its row
-lines-turn : (listing old : List ℕ) (mixed : Bool) (T : rules.Table) (table : List ℕ) (first i : ℕ) {p r : ℕ} {o o′ : List ℕ} (x : Bool) → keptAt old mixed i ≡ x
-    → Bounded mostRootText (if x (λ _. spanAt listing old i) (λ _. rootTextOf T (rootAt table (first + i)))) p o o′ r
-    → Bounded mostRootText (linesAt listing old mixed T table first i) p o o′ r
-lines-turn listing old mixed T table first i {p} {r} {o} {o′} x e =
-    subst (λ (y : Bool). Bounded mostRootText (if y (λ _. spanAt listing old i) (λ _. rootTextOf T (rootAt table (first + i)))) p o o′ r) (sym e)
+lines-turn : (listing old : List ℕ) (mixed : Bool) (form : Form) (T : rules.Table) (table : List ℕ) (first i : ℕ) {p r : ℕ} {o o′ : List ℕ} (x : Bool) → keptAt old mixed i ≡ x
+    → Bounded mostRootText (if x (λ _. spanAt listing old i) (λ _. rootTextOf form T (rootAt table (first + i)))) p o o′ r
+    → Bounded mostRootText (linesAt listing old mixed form T table first i) p o o′ r
+lines-turn listing old mixed form T table first i {p} {r} {o} {o′} x e =
+    subst (λ (y : Bool). Bounded mostRootText (if y (λ _. spanAt listing old i) (λ _. rootTextOf form T (rootAt table (first + i)))) p o o′ r) (sym e)
 
-module _ {listing old table arena work : List ℕ} {g : Prepared} {mixed : Bool} {p i r : ℕ} {o : List ℕ} {b : Bool} (k : IsKept old mixed i b) where
+module _ {listing old table arena work : List ℕ} {g : Prepared} {mixed : Bool} {form : Form} {p i r : ℕ} {o : List ℕ} {b : Bool} (k : IsKept old mixed i b) where
   pub lines-kept : {o′ : List ℕ} {from q to : ℕ} → b ≡ true → from ≡ cell old i → q ≡ 1 + i → to ≡ cell old q → WritesOld listing p from to o o′ r
-      → WritesNext listing old mixed table g arena work p i o table o′ r
+      → WritesNext listing old mixed table g arena work form p i o table o′ r
   lines-kept {o′} {from} {q} {to} e a c d w =
       let next : 1 + i ≡ i + 1 = omega arith in
       let z : to ≡ cell old (i + 1) = d ∙ ap (cell old) (c ∙ next) in
@@ -152,7 +147,7 @@ module _ {listing old table arena work : List ℕ} {g : Prepared} {mixed : Bool}
         is = λ {T} u l lt.
             let kept = sym (k .is) ∙ e in
             let h = l .is i lt kept in
-            lines-turn listing old mixed T table (g .first) i true kept
+            lines-turn listing old mixed form T table (g .first) i true kept
             (record {
               wrote = wrote-as (w .is (omega (arith, h .0))) (ap₂ {C = List ℕ} (span listing) a z);
               short = omega (arith, span-length listing (cell old i) (cell old (i + 1)), h .0, h .1);
@@ -161,16 +156,16 @@ module _ {listing old table arena work : List ℕ} {g : Prepared} {mixed : Bool}
       }
 
   pub lines-redone : {table′ o′ : List ℕ} {a c d row id sign : ℕ} → b ≡ false → a ≡ g .first + i → row ≡ cell table a → c ≡ row + 1 → id ≡ cell table c
-      → d ≡ row + 2 → sign ≡ cell table d → WritesRoot table g arena work p id sign o table′ o′ r
-      → WritesNext listing old mixed table g arena work p i o table′ o′ r
+      → d ≡ row + 2 → sign ≡ cell table d → WritesRoot table g arena work form p id sign o table′ o′ r
+      → WritesNext listing old mixed table g arena work form p i o table′ o′ r
   lines-redone {table′} {o′} e ea row-is ec id-is ed sign-is w =
       let f = row-is ∙ ap (cell table) ea in
       let id-at = id-is ∙ ap (cell table) (ec ∙ ap (λ (n : ℕ). n + 1) f) in
       let sign-at = sign-is ∙ ap (cell table) (ed ∙ ap (λ (n : ℕ). n + 2) f) in
       record {
         is = λ {T} u l lt.
-            lines-turn listing old mixed T table (g .first) i false (sym (k .is) ∙ e)
-            (subst (λ (t : List ℕ). Bounded mostRootText t p o o′ r) (ap₂ {C = List ℕ} (rootText T) id-at sign-at)
+            lines-turn listing old mixed form T table (g .first) i false (sym (k .is) ∙ e)
+            (subst (λ (t : List ℕ). Bounded mostRootText t p o o′ r) (ap₂ {C = List ℕ} (rootText form T) id-at sign-at)
             (w .is u (omega (arith, u .prepared .known i lt))));
         kept = w .kept;
       }
@@ -208,47 +203,47 @@ listed-next {texts} {i = i} a e b =
     }
 
 -- of every table that the slice may hold
-pub record Listing (listing old : List ℕ) (mixed : Bool) (g : Prepared) (table₀ arena₀ work₀ o₀ table arena work o : List ℕ) (p₀ p n i : ℕ) : Type 0 where
+pub record Listing (listing old : List ℕ) (mixed : Bool) (form : Form) (g : Prepared) (table₀ arena₀ work₀ o₀ table arena work o : List ℕ) (p₀ p n i : ℕ) : Type 0 where
   pub few : i ≤ n
   pub is : {T : rules.Table} → Running T g table₀ arena₀ work₀ → Lying listing old mixed (g .roots)
-      → Listed (linesAt listing old mixed T table₀ (g .first)) table₀ table o₀ o p₀ p i
+      → Listed (linesAt listing old mixed form T table₀ (g .first)) table₀ table o₀ o p₀ p i
   pub arena-long : length arena ≡ length arena₀
   pub work-long : length work ≡ length work₀
 
-pub listing-start : {listing old : List ℕ} {mixed : Bool} {g : Prepared} {table arena work o : List ℕ} {p n : ℕ}
-    → Listing listing old mixed g table arena work o table arena work o p p n 0
+pub listing-start : {listing old : List ℕ} {mixed : Bool} {form : Form} {g : Prepared} {table arena work o : List ℕ} {p n : ℕ}
+    → Listing listing old mixed form g table arena work o table arena work o p p n 0
 listing-start = record { few = omega arith; is = λ u l. listed-start; arena-long = refl; work-long = refl }
 
-module _ {listing old : List ℕ} {mixed : Bool} {g : Prepared} {table₀ arena₀ work₀ o₀ : List ℕ} {p₀ : ℕ} where
+module _ {listing old : List ℕ} {mixed : Bool} {form : Form} {g : Prepared} {table₀ arena₀ work₀ o₀ : List ℕ} {p₀ : ℕ} where
   pub listing-next : {table arena work o table′ arena′ work′ o′ : List ℕ} {p n i r : ℕ}
-      → Listing listing old mixed g table₀ arena₀ work₀ o₀ table arena work o p₀ p n i → n ≡ g .roots → i < n
-      → length arena′ ≡ length arena → length work′ ≡ length work → WritesNext listing old mixed table g arena work p i o table′ o′ r
-      → Listing listing old mixed g table₀ arena₀ work₀ o₀ table′ arena′ work′ o′ p₀ r n (i + 1)
+      → Listing listing old mixed form g table₀ arena₀ work₀ o₀ table arena work o p₀ p n i → n ≡ g .roots → i < n
+      → length arena′ ≡ length arena → length work′ ≡ length work → WritesNext listing old mixed table g arena work form p i o table′ o′ r
+      → Listing listing old mixed form g table₀ arena₀ work₀ o₀ table′ arena′ work′ o′ p₀ r n (i + 1)
   listing-next {table} {arena} {work} {o} {table′} {arena′} {work′} {o′} {p} {n} {i} {r} m e lt ea ew w = record {
     few = omega arith;
     is = λ {T} u l.
         let a = m .is u l in
         let v : Running T g table arena work = running-on u (a .kept) (m .arena-long) (m .work-long) in
         listed-next a (w .kept v)
-        (subst (λ (t : List ℕ). Bounded mostRootText (linesAt listing old mixed T t (g .first) i) p o o′ r) (a .kept) (w .is v l (omega arith)));
+        (subst (λ (t : List ℕ). Bounded mostRootText (linesAt listing old mixed form T t (g .first) i) p o o′ r) (a .kept) (w .is v l (omega arith)));
     arena-long = ea ∙ m .arena-long;
     work-long = ew ∙ m .work-long;
   }
 
-  -- after the line `answers`
-  pub listing-done : {out table arena work o : List ℕ} {at n p i : ℕ} → Wrote (answersText n) at out o₀ p₀ → n ≡ g .roots
-      → Listing listing old mixed g table₀ arena₀ work₀ o₀ table arena work o p₀ p n i → n ≤ i → WritesRoots listing old mixed table₀ g arena₀ work₀ at out table o p
+  -- after the lines `answers` and `numbered`
+  pub listing-done : {out table arena work o : List ℕ} {at n p i : ℕ} → Wrote (answersText form n) at out o₀ p₀ → n ≡ g .roots
+      → Listing listing old mixed form g table₀ arena₀ work₀ o₀ table arena work o p₀ p n i → n ≤ i → WritesRoots listing old mixed table₀ g arena₀ work₀ form at out table o p
   listing-done {out} {table} {arena} {work} {o} {at} {n} {p} {i} head e m high = record {
     is = λ {T} u l.
         let a = m .is u l in
         let z : i ≡ g .roots = omega (arith, m .few) in
         let few : g .roots ≤ mostRoots = few-roots u in
-        let lines : ℕ → List ℕ = linesAt listing old mixed T table₀ (g .first) in
-        let whole : answersText n ++ joined (run lines 0 i) ≡ allLines listing old mixed T table₀ g =
-        λ j. answersText (e j) ++ joined (run lines 0 (z j)) in
+        let lines : ℕ → List ℕ = linesAt listing old mixed form T table₀ (g .first) in
+        let whole : answersText form n ++ joined (run lines 0 i) ≡ allLines listing old mixed form T table₀ g =
+        λ j. answersText form (e j) ++ joined (run lines 0 (z j)) in
         record {
           wrote = wrote-as (wrote-more head (a .wrote)) whole;
-          short = omega (arith, ap length whole, length-append (answersText n) (joined (run lines 0 i)), answers-bounded {n = n} (omega arith), a .short);
+          short = omega (arith, ap length whole, length-append (answersText form n) (joined (run lines 0 i)), answers-bounded form {n = n} (omega arith), a .short);
         };
     kept = λ u l. m .is u l .kept;
   }

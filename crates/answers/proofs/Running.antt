@@ -18,9 +18,11 @@ use Rattle.rules.specs.Canonicalizer.{refusedWith, firstPass, readerOf, canonic
 use Rattle.rules.specs.Canonicalizer as runs
 use Rattle.laws.specs.Sound.{mostRootText}
 use Rattle.rules.specs.Listing.{answerText, rootText}
+use Rattle.rules.specs.Variables.{answerIn}
+use Rattle.rules.specs.declared.Form.{Form}
 use Rattle.rules.specs.declared.Polarity.{Polarity}
 use Rattle.rules.specs.declared.Polarity.the-variants.{Positive, Negative}
-use Rattle.laws.proofs.Bounding.{Numbers, root-bounded, refused-bounded}
+use Rattle.laws.proofs.Bounding.{Numbers, modest-in, below-in, root-bounded, refused-bounded}
 use Rattle.table.specs.declared.Table.{Table}
 use Rattle.table.specs.declared.Answer.{Answer}
 use Rattle.table.specs.declared.Answer.the-variants.{Accepted}
@@ -72,31 +74,32 @@ module _ {table arena work table′ arena′ work′ : List ℕ} {g : Prepared} 
       subst (λ (x : Polarity). RootBy (canonicalize (firstPass T) (readerOf T) id x) arena′ answer) (h .is)
       (c .is (u .prepared .knows) (u .prepared .tabled) (u .lent) (none-preserved u) lt .is)
 
-  pub root-shown : {s : Shown} {p r : ℕ} {o o′ : List ℕ} → answer ≡ ShownR s → length table′ ≡ length table → length work′ ≡ length work
+  pub root-shown : {form : Form} {s : Shown} {p r : ℕ} {o o′ : List ℕ} → answer ≡ ShownR s → length table′ ≡ length table → length work′ ≡ length work
       → ((k : ℕ) → cell arena′ k ≤ greatest) → Numbers (id ∷ sign ∷ s .passes ∷ s .ops ∷ [])
-      → WroteRoot arena′ work′ id sign s p o o′ r
-      → WritesRoot table g arena work p id sign o table′ o′ r
+      → WroteRoot arena′ work′ form id sign s p o o′ r
+      → WritesRoot table g arena work form p id sign o table′ o′ r
   unfolding rootText
-  root-shown {s} {p} {r} {o} {o′} e l lw cells numbers w = record {
+  root-shown {form} {s} {p} {r} {o} {o′} e l lw cells numbers w = record {
     is = λ {T} u lt.
         let a : ShownIs (answerOf T id (polarityOf sign)) arena′ s =
         subst (RootBy (answerOf T id (polarityOf sign)) arena′) e (answer-is u lt) in
         let long : workLength ≤ length work′ = omega (arith, u .lent .work) in
-        subst (λ (x : runs.Answer). Bounded mostRootText (answerText id sign x) p o o′ r) (sym (a .is))
+        subst (λ (x : runs.Answer). Bounded mostRootText (answerText id sign (answerIn form x)) p o o′ r) (sym (a .is))
         (record {
           wrote = w .is (a .arena) (a .below) long;
-          short = root-bounded (modest arena′ cells (a .arena)) (a .below) (s .sorted) (s .bailed) numbers;
+          short = root-bounded (modest-in form _ (s .node) (modest arena′ cells (a .arena))) (below-in form _ (a .below)) (s .sorted) (s .bailed) numbers;
         });
     kept = table-kept l;
   }
 
-  pub root-refused : {k p r : ℕ} {o o′ : List ℕ} → answer ≡ Refused k → length table′ ≡ length table → Numbers (id ∷ sign ∷ k ∷ [])
-      → Wrote (answerText id sign (refusedWith k)) p o o′ r → WritesRoot table g arena work p id sign o table′ o′ r
+  pub root-refused : {form : Form} {k p r : ℕ} {o o′ : List ℕ} → answer ≡ Refused k → length table′ ≡ length table → Numbers (id ∷ sign ∷ k ∷ [])
+      → Wrote (answerText id sign (refusedWith k)) p o o′ r → WritesRoot table g arena work form p id sign o table′ o′ r
   unfolding rootText
-  root-refused {k} {p} {r} {o} {o′} e l numbers w = record {
+  root-refused {form} {k} {p} {r} {o} {o′} e l numbers w = record {
     is = λ {T} u lt.
         let a : answerOf T id (polarityOf sign) ≡ refusedWith k = subst (RootBy (answerOf T id (polarityOf sign)) arena′) e (answer-is u lt) in
-        subst (λ (x : runs.Answer). Bounded mostRootText (answerText id sign x) p o o′ r) (sym a) (record { wrote = w; short = refused-bounded numbers });
+        subst (λ (x : runs.Answer). Bounded mostRootText (answerText id sign (answerIn form x)) p o o′ r) (sym a)
+        (record { wrote = w; short = refused-bounded numbers });
     kept = table-kept l;
   }
 

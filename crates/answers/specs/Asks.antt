@@ -5,6 +5,8 @@ use mathlib.Core.List.{List}
 use lib.ListN.{length}
 use Rattle.rules.specs.Table as rules
 use Rattle.rules.specs.Listing.{rootText, listingText}
+use Rattle.rules.specs.declared.Form.{Form}
+use Rattle.rules.specs.declared.Form.the-variants.{Plain}
 use Rattle.rules.specs.Calls.{fits, recheckText, leaves}
 use Rattle.prepare.specs.declared.Prepared.{Prepared}
 use Rattle.listing.specs.Writes.{over}
@@ -16,17 +18,17 @@ use Rattle.answers.specs.Runs.{Running}
 use Rattle.answers.specs.Mixes.{Noted}
 
 -- recheck's text for a new table, by what the slice of the old one tells
-pub record MixedText (T : rules.Table) (listing old : List ℕ) (n : ℕ) (t : List ℕ) : Type 0 where
+pub record MixedText (form : Form) (T : rules.Table) (listing old : List ℕ) (n : ℕ) (t : List ℕ) : Type 0 where
   pub before : rules.Table
   pub texts : List (List ℕ)
   pub noted : Noted before T listing texts old n
-  pub is : t ≡ recheckText before T texts
+  pub is : t ≡ recheckText form before T texts
 
 -- t is the text that is asked for
 abbrev pub AskedText : rules.Table → List ℕ → List ℕ → Prepared → Asked → List ℕ → Type 0
-AskedText T listing old g All t = t ≡ listingText T
-AskedText T listing old g (Root id s) t = (id < g .canon .count) × (t ≡ rootText T id s)
-AskedText T listing old g Mixed t = MixedText T listing old (g .roots) t
+AskedText T listing old g (All form) t = t ≡ listingText form T
+AskedText T listing old g (Root id s) t = (id < g .canon .count) × (t ≡ rootText Plain T id s)
+AskedText T listing old g (Mixed form) t = MixedText form T listing old (g .roots) t
 
 -- t was written from the beginning of o on, and r is its length
 pub record Text (t o o′ : List ℕ) (r : ℕ) : Type 0 where

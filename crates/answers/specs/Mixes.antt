@@ -13,6 +13,7 @@ use Rattle.rules.specs.Text.{tab}
 use Rattle.rules.specs.Table.{rootOf}
 use Rattle.rules.specs.Table as rules
 use Rattle.rules.specs.Listing.{rootTextOf, answersText}
+use Rattle.rules.specs.declared.Form.{Form}
 use Rattle.rules.specs.Calls.{redone, redoneWord}
 use Rattle.laws.specs.Sound.{mostRootText}
 use Rattle.text.specs.Reads.{span, spanAt}
@@ -56,23 +57,23 @@ pub record Lying (listing old : List ℕ) (mixed : Bool) (n : ℕ) : Type 0 wher
   pub is : (i : ℕ) → i < n → keptAt old mixed i ≡ true → (cell old (i + 1) ≤ length listing) × (length listing ≤ mostText)
 
 -- the lines of root i: the old ones if it is kept, those that the table gives if not
-abbrev pub linesAt : List ℕ → List ℕ → Bool → rules.Table → List ℕ → ℕ → ℕ → List ℕ
-linesAt listing old mixed T table first i =
-    if (keptAt old mixed i) (λ _. spanAt listing old i) (λ _. rootTextOf T (rootAt table (first + i)))
+abbrev pub linesAt : List ℕ → List ℕ → Bool → Form → rules.Table → List ℕ → ℕ → ℕ → List ℕ
+linesAt listing old mixed form T table first i =
+    if (keptAt old mixed i) (λ _. spanAt listing old i) (λ _. rootTextOf form T (rootAt table (first + i)))
 
-pub record WritesNext (listing old : List ℕ) (mixed : Bool) (table : List ℕ) (g : Prepared) (arena work : List ℕ) (p i : ℕ) (o table′ o′ : List ℕ) (r : ℕ)
-    : Type 0 where
+pub record WritesNext (listing old : List ℕ) (mixed : Bool) (table : List ℕ) (g : Prepared) (arena work : List ℕ) (form : Form) (p i : ℕ)
+    (o table′ o′ : List ℕ) (r : ℕ) : Type 0 where
   pub is : {T : rules.Table} → Running T g table arena work → Lying listing old mixed (g .roots) → i < g .roots
-      → Bounded mostRootText (linesAt listing old mixed T table (g .first) i) p o o′ r
+      → Bounded mostRootText (linesAt listing old mixed form T table (g .first) i) p o o′ r
   pub kept : {T : rules.Table} → Running T g table arena work → table′ ≡ table
 
--- the line `answers`, and the lines of all roots
-abbrev pub allLines : List ℕ → List ℕ → Bool → rules.Table → List ℕ → Prepared → List ℕ
-allLines listing old mixed T table g =
-    answersText (g .roots) ++ joined (run (linesAt listing old mixed T table (g .first)) 0 (g .roots))
+-- the line `answers`, the line `numbered` if the variables are, and the lines of all roots
+abbrev pub allLines : List ℕ → List ℕ → Bool → Form → rules.Table → List ℕ → Prepared → List ℕ
+allLines listing old mixed form T table g =
+    answersText form (g .roots) ++ joined (run (linesAt listing old mixed form T table (g .first)) 0 (g .roots))
 
-pub record WritesRoots (listing old : List ℕ) (mixed : Bool) (table : List ℕ) (g : Prepared) (arena work : List ℕ) (p : ℕ) (o table′ o′ : List ℕ) (r : ℕ)
-    : Type 0 where
+pub record WritesRoots (listing old : List ℕ) (mixed : Bool) (table : List ℕ) (g : Prepared) (arena work : List ℕ) (form : Form) (p : ℕ)
+    (o table′ o′ : List ℕ) (r : ℕ) : Type 0 where
   pub is : {T : rules.Table} → Running T g table arena work → Lying listing old mixed (g .roots)
-      → Bounded (mostRootText + mostRoots * mostRootText) (allLines listing old mixed T table g) p o o′ r
+      → Bounded (mostRootText + mostRoots * mostRootText) (allLines listing old mixed form T table g) p o o′ r
   pub kept : {T : rules.Table} → Running T g table arena work → Lying listing old mixed (g .roots) → table′ ≡ table

@@ -10,6 +10,7 @@ use Rattle.rules.specs.Table as rules
 use Rattle.rules.specs.Types.{polarityOf}
 use Rattle.laws.specs.Sound.{mostRootText}
 use Rattle.rules.specs.Listing.{rootText}
+use Rattle.rules.specs.declared.Form.{Form}
 use Rattle.rules.specs.declared.Polarity.{Polarity}
 use Rattle.table.specs.declared.Table.{Table}
 use Rattle.table.specs.declared.Answer.the-variants.{Accepted}
@@ -36,8 +37,8 @@ pub record Bounded (most : ℕ) (t : List ℕ) (p : ℕ) (o o′ : List ℕ) (r 
   pub short : length t ≤ most
 
 -- the lines of one root, written from p on
-pub record WritesRoot (table : List ℕ) (g : Prepared) (arena work : List ℕ) (p id sign : ℕ) (o table′ o′ : List ℕ) (r : ℕ) : Type 0 where
-  pub is : {T : rules.Table} → Running T g table arena work → id < g .canon .count → Bounded mostRootText (rootText T id sign) p o o′ r
+pub record WritesRoot (table : List ℕ) (g : Prepared) (arena work : List ℕ) (form : Form) (p id sign : ℕ) (o table′ o′ : List ℕ) (r : ℕ) : Type 0 where
+  pub is : {T : rules.Table} → Running T g table arena work → id < g .canon .count → Bounded mostRootText (rootText form T id sign) p o o′ r
   pub kept : {T : rules.Table} → Running T g table arena work → table′ ≡ table
 
 -- the rows of a table that was accepted stand in its slice, and its facts are zero

@@ -3,13 +3,14 @@ use crate::mixed;
 use crate::roots;
 use outcomes::Outcome;
 use prepare::Prepared;
+use rules::Form;
 ghost use Rattle.answers.specs.Asks.{WritesAsked, Delivers};
 
-// The lines of all roots after `answers`; those of one id and sign (0 for +); or recheck's text.
+// The lines of all roots after `answers`; those of one id and sign (0 for +), which are plain; or recheck's text.
 pub enum Asked {
-    All,
+    All(Form),
     Root(u32, u32),
-    Mixed,
+    Mixed(Form),
 }
 
 // What is asked, written from the beginning of a slice on; the length of the text. Only recheck's text reads the old listing and the slice
@@ -28,11 +29,15 @@ fn write_asked(
         (now (out .entry)) (now (table .exit)) (now (out .exit)) r ⌝ }
 {
     match asked {
-        Asked::All => mixed::write_roots(listing, out, old, false, table, g, arena, work, 0),
-        Asked::Root(id, sign) => roots::write_root(out, table, g, arena, work, 0, id, sign),
-        Asked::Mixed => {
+        Asked::All(form) => {
+            mixed::write_roots(listing, out, old, false, table, g, arena, work, form, 0)
+        }
+        Asked::Root(id, sign) => {
+            roots::write_root(out, table, g, arena, work, Form::Plain, 0, id, sign)
+        }
+        Asked::Mixed(form) => {
             let p = mixed::write_words(out, old, g.roots);
-            mixed::write_roots(listing, out, old, true, table, g, arena, work, p)
+            mixed::write_roots(listing, out, old, true, table, g, arena, work, form, p)
         }
     }
 }

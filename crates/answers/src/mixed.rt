@@ -9,6 +9,7 @@ use layout::SpanSlice;
 use listing::lines;
 use listing::write;
 use prepare::Prepared;
+use rules::Form;
 ghost use mathlib.Core.List.{_++_};
 ghost use Rattle.cells.specs.Part.{run};
 ghost use Rattle.rules.specs.Text.{lineText};
@@ -82,10 +83,11 @@ fn write_root(
     g: Prepared,
     arena: &mut [u32],
     work: &mut [u32],
+    form: Form,
     p: u32,
     i: u32,
 ) -> u32
-    ensures { λ r. ⌜ WritesNext (now (listing .entry)) (now (old .entry)) mixed (now (table .entry)) g (now (arena .entry)) (now (work .entry)) p i
+    ensures { λ r. ⌜ WritesNext (now (listing .entry)) (now (old .entry)) mixed (now (table .entry)) g (now (arena .entry)) (now (work .entry)) form p i
         (now (out .entry)) (now (table .exit)) (now (out .exit)) r ⌝ }
 {
     if is_kept(old, mixed, i) {
@@ -96,10 +98,10 @@ fn write_root(
     let row = get(table, place(g.first, i));
     let id = get(table, place(row, 1));
     let sign = get(table, place(row, 2));
-    roots::write_root(out, table, g, arena, work, p, id, sign)
+    roots::write_root(out, table, g, arena, work, form, p, id, sign)
 }
 
-// The line `answers` and the lines of every root, written from a position on; the position after them.
+// The line `answers`, the line `numbered` if the variables are, and the lines of every root, written from a position on; the position after them.
 pub fn write_roots(
     listing: &[u8],
     out: &mut [u8],
@@ -109,16 +111,17 @@ pub fn write_roots(
     g: Prepared,
     arena: &mut [u32],
     work: &mut [u32],
+    form: Form,
     at: u32,
 ) -> u32
-    ensures { λ r. ⌜ WritesRoots (now (listing .entry)) (now (old .entry)) mixed (now (table .entry)) g (now (arena .entry)) (now (work .entry)) at
+    ensures { λ r. ⌜ WritesRoots (now (listing .entry)) (now (old .entry)) mixed (now (table .entry)) g (now (arena .entry)) (now (work .entry)) form at
         (now (out .entry)) (now (table .exit)) (now (out .exit)) r ⌝ }
 {
     let n = g.roots;
-    let mut p = lines::answers(out, at, n);
+    let mut p = lines::answers(out, at, form, n);
     let mut i = 0;
     while i < n {
-        p = write_root(listing, out, old, mixed, table, g, arena, work, p, i);
+        p = write_root(listing, out, old, mixed, table, g, arena, work, form, p, i);
         i += 1;
     }
     p

@@ -3,6 +3,7 @@ use lang_check::collect;
 use lang_check::collect::RootAnswer;
 use listing::lines;
 use prepare::Prepared;
+use rules::Form;
 use rules::Polarity;
 ghost use Rattle.answers.specs.Runs.{PolarityIs, WritesRoot};
 
@@ -23,16 +24,17 @@ pub fn write_root(
     g: Prepared,
     arena: &mut [u32],
     work: &mut [u32],
+    form: Form,
     p: u32,
     id: u32,
     sign: u32,
 ) -> u32
-    ensures { λ r. ⌜ WritesRoot (now (table .entry)) g (now (arena .entry)) (now (work .entry)) p id sign (now (out .entry)) (now (table .exit))
+    ensures { λ r. ⌜ WritesRoot (now (table .entry)) g (now (arena .entry)) (now (work .entry)) form p id sign (now (out .entry)) (now (table .exit))
         (now (out .exit)) r ⌝ }
 {
     let c = g.canon;
     match collect::canonicalize(table, c, arena, work, id, polarity(sign)) {
-        RootAnswer::Shown(s) => lines::root_lines(out, arena, work, p, id, sign, s),
+        RootAnswer::Shown(s) => lines::root_lines(out, arena, work, p, form, id, sign, s),
         RootAnswer::Refused(k) => lines::refused_root(out, p, id, sign, k),
     }
 }

@@ -13,6 +13,8 @@ use Rattle.rules.specs.Table.{Result, accepted, refused, tableOf}
 use Rattle.rules.specs.Table as rules
 use Rattle.rules.specs.Canonicalizer.{firstPass}
 use Rattle.rules.specs.Listing.{rootText, listingText}
+use Rattle.rules.specs.declared.Form.{Form}
+use Rattle.rules.specs.declared.Form.the-variants.{Plain}
 use Rattle.rules.specs.Calls.{fits, canon, canonRoot, leaves, unlessShort}
 use Rattle.table.specs.declared.Table.{Table}
 use Rattle.table.specs.declared.Answer.{Answer}
@@ -34,10 +36,10 @@ use Rattle.canon_call.specs.Called.{noEntry, IsNoEntry, CallOf, Answers,
 
 -- each way out of `is_no_entry`
 module _ {t : Table} {asked : Asked} where
-  pub all-known : asked ≡ All → IsNoEntry t asked false
+  pub all-known : {form : Form} → asked ≡ All form → IsNoEntry t asked false
   all-known e = record { is = sym (ap (noEntry (t .entries)) e) }
 
-  pub mixed-known : asked ≡ Mixed → IsNoEntry t asked false
+  pub mixed-known : {form : Form} → asked ≡ Mixed form → IsNoEntry t asked false
   mixed-known e = record { is = sym (ap (noEntry (t .entries)) e) }
 
   pub root-known : {id sign : ℕ} {b : Bool} → asked ≡ Root id sign → b ≡ leb (t .entries) id → IsNoEntry t asked b
@@ -46,9 +48,9 @@ module _ {t : Table} {asked : Asked} where
 -- what is asked of a text that is refused
 refused-by : (text : List ℕ) (room : ℕ) (asked : Asked) {x : Result (List ℕ)} {k l : ℕ} → tableOf text ≡ refused k l → CallOf asked text room x → x ≡ refused k l
 unfolding canon canonRoot
-refused-by text room All e c = c ∙ simp e
+refused-by text room (All form) e c = c ∙ simp e
 refused-by text room (Root id s) e c = c ∙ simp e
-refused-by text room Mixed e c = absurd c
+refused-by text room (Mixed form) e c = absurd c
 
 -- and of a table that was accepted: 3 for a root that it does not have, and else this text, if it fits
 record Texted (room : ℕ) (T : rules.Table) (listing old : List ℕ) (g : Prepared) (asked : Asked) (x : Result (List ℕ)) : Type 0 where
@@ -59,18 +61,18 @@ record Texted (room : ℕ) (T : rules.Table) (listing old : List ℕ) (g : Prepa
 module _ (text : List ℕ) (room : ℕ) (T : rules.Table) (read : tableOf text ≡ accepted T) where
   asked-none : (asked : Asked) {x : Result (List ℕ)} → noEntry (length (T .entries)) asked ≡ true → CallOf asked text room x → x ≡ refused 3 0
   unfolding canonRoot
-  asked-none All h c = absurd (let z : _≡_ {A = ℕ} 0 1 = cc in omega arith)
+  asked-none (All form) h c = absurd (let z : _≡_ {A = ℕ} 0 1 = cc in omega arith)
   asked-none (Root id s) h c = c ∙ simp (read, le-ltb id (length (T .entries)) (leb-true (length (T .entries)) id h))
-  asked-none Mixed h c = absurd c
+  asked-none (Mixed form) h c = absurd c
 
   asked-some : (listing old : List ℕ) (g : Prepared) (asked : Asked) {x : Result (List ℕ)} → length (T .entries) ≡ g .canon .count
       → noEntry (length (T .entries)) asked ≡ false → CallOf asked text room x → Texted room T listing old g asked x
   unfolding canon canonRoot
-  asked-some listing old g All n h c = record { t = listingText T; asks = refl; is = c ∙ simp read }
+  asked-some listing old g (All form) n h c = record { t = listingText form T; asks = refl; is = c ∙ simp read }
   asked-some listing old g (Root id s) n h c =
       let lt = leb-false (length (T .entries)) id h in
-      record { t = rootText T id s; asks = (omega arith, refl); is = c ∙ simp (read, lt-ltb id (length (T .entries)) lt) }
-  asked-some listing old g Mixed n h c = absurd c
+      record { t = rootText Plain T id s; asks = (omega arith, refl); is = c ∙ simp (read, lt-ltb id (length (T .entries)) lt) }
+  asked-some listing old g (Mixed form) n h c = absurd c
 
 -- a table that was read after facts that were cleared, where no scratch is short
 fresh-of : {text table arena work table₁ table₂ : List ℕ} {a : Answer} {t : Table} {d : ℕ} {b : Bool}

@@ -1,4 +1,4 @@
--- What canon and canon_root promise: the outcome, the output, and every lent cell. And what the functions on the way ensure.
+-- What canon, canon_numbered and canon_root promise: the outcome, the output, and every lent cell. And what the functions on the way ensure.
 use mathlib.Core.Path.{_≡_}
 use mathlib.Core.Bool.{Bool, false}
 use Prim.Native.Nat.{ℕ}
@@ -7,6 +7,7 @@ use lib.ListN.{length}
 use lib.Dec.{leb}
 use Rattle.layout.specs.Layout.{arenaLength}
 use Rattle.rules.specs.Table.{Result}
+use Rattle.rules.specs.declared.Form.{Form}
 use Rattle.rules.specs.Calls.{canon, canonRoot, leaves, unlessShort, canonCall, canonRootCall}
 use Rattle.table.specs.declared.Table.{Table}
 use Rattle.outcomes.specs.Outcomes.{isShort, Says, Called}
@@ -16,20 +17,20 @@ use Rattle.answers.specs.declared.asked.Asked.the-variants.{All, Root, Mixed}
 
 -- an id that is asked for is none of n entries
 abbrev pub noEntry : ℕ → Asked → Bool
-noEntry n All = false
+noEntry n (All form) = false
 noEntry n (Root id s) = leb n id
-noEntry n Mixed = false
+noEntry n (Mixed form) = false
 
 pub record IsNoEntry (t : Table) (asked : Asked) (r : Bool) : Type 0 where
   pub is : r ≡ noEntry (t .entries) asked
 
 -- what is asked of a text, as the rules have it; recheck's text is not asked of one table
 abbrev pub CallOf : Asked → List ℕ → ℕ → Result (List ℕ) → Type 0
-CallOf All text room x = x ≡ canon text room
+CallOf (All form) text room x = x ≡ canon form text room
 CallOf (Root id s) text room x = x ≡ canonRoot text id s room
-CallOf Mixed text room x = ⊥
+CallOf (Mixed form) text room x = ⊥
 
--- 20 for canon and canon_root
+-- 20 for canon, canon_numbered and canon_root
 abbrev pub canonShort : List ℕ → List ℕ → List ℕ → List ℕ → Bool
 canonShort draft table arena work = isShort (length draft) (length table) (length arena) arenaLength (length work)
 
@@ -40,10 +41,10 @@ pub record Calls (text : List ℕ) (asked : Asked) (out draft table arena work o
   pub is : (x : Result (List ℕ)) → CallOf asked text (length out) x
       → Called (leaves out (unlessShort (canonShort draft table arena work) x)) draft table arena work out′ draft′ table′ arena′ work′ r
 
--- what is promised of canon
-abbrev pub Canon : List ℕ → List ℕ → List ℕ → List ℕ → List ℕ → List ℕ → List ℕ → List ℕ → List ℕ → List ℕ → List ℕ → Outcome → Type 0
-Canon text out draft table arena work out′ draft′ table′ arena′ work′ r =
-    Called (canonCall text out (canonShort draft table arena work)) draft table arena work out′ draft′ table′ arena′ work′ r
+-- what is promised of canon, which gives a plain listing, and of canon_numbered
+abbrev pub Canon : Form → List ℕ → List ℕ → List ℕ → List ℕ → List ℕ → List ℕ → List ℕ → List ℕ → List ℕ → List ℕ → List ℕ → Outcome → Type 0
+Canon form text out draft table arena work out′ draft′ table′ arena′ work′ r =
+    Called (canonCall form text out (canonShort draft table arena work)) draft table arena work out′ draft′ table′ arena′ work′ r
 
 -- and of canon_root
 abbrev pub CanonRoot : List ℕ → ℕ → ℕ → List ℕ → List ℕ → List ℕ → List ℕ → List ℕ → List ℕ → List ℕ → List ℕ → List ℕ → List ℕ → Outcome → Type 0

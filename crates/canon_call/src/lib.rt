@@ -1,6 +1,7 @@
-// canon and canon_root. A call tests what is lent to it, refuses a short scratch with 20 before all else, and leaves every scratch zero.
+// canon, canon_numbered and canon_root. A call tests what is lent to it, refuses a short scratch with 20 before all else, and leaves every scratch zero.
 pub mod program;
 
+ghost use Rattle.rules.specs.declared.Form.the-variants.{Plain, Numbered};
 ghost use Rattle.canon_call.specs.Called.{IsNoEntry, Answers, Calls, Canon, CanonRoot};
 use answers::asked::Asked;
 use answers::asked::deliver;
@@ -9,6 +10,7 @@ use layout::ArenaSlice;
 use layout::TableSlice;
 use outcomes::Outcome;
 use prepare::prepare;
+use rules::Form;
 use table::Answer;
 use table::Table;
 
@@ -17,9 +19,9 @@ fn is_no_entry(t: Table, asked: Asked) -> bool
     ensures { λ r. ⌜ IsNoEntry t asked r ⌝ }
 {
     match asked {
-        Asked::All => false,
+        Asked::All(_) => false,
         Asked::Root(id, _) => t.entries <= id as usize,
-        Asked::Mixed => false,
+        Asked::Mixed(_) => false,
     }
 }
 
@@ -78,6 +80,22 @@ fn call(
     r
 }
 
+// The whole listing of a table in this form, or the refusal.
+pub fn canon_in(
+    form: Form,
+    text: &[u8],
+    out: &mut [u8],
+    draft: &mut [u8],
+    table: &mut [u32],
+    arena: &mut [u32],
+    work: &mut [u32],
+) -> Outcome
+    ensures { λ r. ⌜ Canon form (now (text .entry)) (now (out .entry)) (now (draft .entry)) (now (table .entry)) (now (arena .entry)) (now (work .entry))
+        (now (out .exit)) (now (draft .exit)) (now (table .exit)) (now (arena .exit)) (now (work .exit)) r ⌝ }
+{
+    call(text, Asked::All(form), out, draft, table, arena, work)
+}
+
 // The whole listing of a table, or the refusal.
 pub fn canon(
     text: &[u8],
@@ -87,10 +105,25 @@ pub fn canon(
     arena: &mut [u32],
     work: &mut [u32],
 ) -> Outcome
-    ensures { λ r. ⌜ Canon (now (text .entry)) (now (out .entry)) (now (draft .entry)) (now (table .entry)) (now (arena .entry)) (now (work .entry))
+    ensures { λ r. ⌜ Canon Plain (now (text .entry)) (now (out .entry)) (now (draft .entry)) (now (table .entry)) (now (arena .entry)) (now (work .entry))
         (now (out .exit)) (now (draft .exit)) (now (table .exit)) (now (arena .exit)) (now (work .exit)) r ⌝ }
 {
-    call(text, Asked::All, out, draft, table, arena, work)
+    canon_in(Form::Plain, text, out, draft, table, arena, work)
+}
+
+// The same with the variables of each root numbered from 0 on; TypeArena::normalize_vars.
+pub fn canon_numbered(
+    text: &[u8],
+    out: &mut [u8],
+    draft: &mut [u8],
+    table: &mut [u32],
+    arena: &mut [u32],
+    work: &mut [u32],
+) -> Outcome
+    ensures { λ r. ⌜ Canon Numbered (now (text .entry)) (now (out .entry)) (now (draft .entry)) (now (table .entry)) (now (arena .entry)) (now (work .entry))
+        (now (out .exit)) (now (draft .exit)) (now (table .exit)) (now (arena .exit)) (now (work .exit)) r ⌝ }
+{
+    canon_in(Form::Numbered, text, out, draft, table, arena, work)
 }
 
 // The lines of one root of a table, or the refusal.

@@ -7,6 +7,7 @@ ghost use Rattle.examples.specs.Records.{Ahead, Behind};
 use libc::STDIN_FILENO;
 use libc::STDOUT_FILENO;
 use programs::Part;
+use rules::Form;
 use text::Num;
 
 // Room for all records. An input that is longer is cut, and the count tells it.
@@ -69,10 +70,16 @@ fn record_at(s: &[u8], a: usize) -> Record
 // What the call that a head names prints, as the first bytes of out; none for a call that is not known.
 fn run(head: &[u8], given: &[u8], out: &mut [u8]) -> u32 {
     if programs::begins(head, 6, b"canon\t") {
-        return canon_call::program::answer_canon(given, out);
+        return canon_call::program::answer_canon(Form::Plain, given, out);
     }
     if programs::begins(head, 8, b"recheck\t") {
-        return recheck_call::program::answer_parts(given, out);
+        return recheck_call::program::answer_parts(Form::Plain, given, out);
+    }
+    if programs::begins(head, 15, b"canon_numbered\t") {
+        return canon_call::program::answer_canon(Form::Numbered, given, out);
+    }
+    if programs::begins(head, 17, b"recheck_numbered\t") {
+        return recheck_call::program::answer_parts(Form::Numbered, given, out);
     }
     0
 }

@@ -1,5 +1,5 @@
 -- How long a root's lines are at most, so that no position in a text is too great a number. Assumes nothing.
-use mathlib.Core.Path.{_≡_, refl, ap}
+use mathlib.Core.Path.{_≡_, refl, sym, ap, ap₂, _∙_, subst}
 use mathlib.Core.Bool.{Bool, true, false}
 use Prim.Native.Nat.{ℕ, zero, suc, _+_, _*_, _/_, _%_, _≤_, _<_}
 use native.Mathlib.Omega.{arith}
@@ -17,7 +17,12 @@ use Rattle.rules.specs.Types.{Node, TyVar, Primitive, ListOf, Lambda, AttrSet, 
 use Rattle.rules.specs.Types.{fieldWords, dynWords, encode, children, nodeAt, nodeKinds}
 use Rattle.rules.specs.Canonicalizer.{shown, refusedWith}
 use Rattle.laws.specs.Sound.{mostRootText}
-use Rattle.rules.specs.Listing.{headKinds, headText, walk, renumberField, renumberDyn, renumber, nodeText, nodeTexts, answerText, answersText}
+use Rattle.rules.specs.declared.Form.{Form}
+use Rattle.rules.specs.declared.Form.the-variants.{Plain, Numbered}
+use Rattle.rules.specs.Variables.{variableOf, withVariable, normalize-vars, nodesIn}
+use Rattle.laws.proofs.Numbering.{Sort, is-variable, no-variable, sort-of, numbered-at, number-low}
+use Rattle.laws.proofs.NumberedAnswers.{numbered-length, numbered-rooted}
+use Rattle.rules.specs.Listing.{numberedText, headKinds, headText, walk, renumberField, renumberDyn, renumber, nodeText, nodeTexts, answerText, answersText}
 use Rattle.laws.proofs.Admitting.{both-parts}
 use Rattle.laws.proofs.Spreading.{total, sumTo, spread-few}
 use Rattle.laws.proofs.Walking.{walk-spread}
@@ -244,6 +249,45 @@ pub record Modest (ns : List Node) : Type 0 where
   pub numbers : (x : ℕ) → Numbers (encode (nodeAt ns x))
   pub below : (i : ℕ) → i < length ns → Under i (children (nodeAt ns i))
 
+-- with other variables that are numbers, a row is as long and has numbers only
+module _ (f : ℕ → ℕ) where
+  with-length : (n : Node) → Sort n → length (encode (withVariable f n)) ≡ length (encode n)
+  with-length n (is-variable v) = refl
+  with-length n (no-variable e same) = ap (λ (m : Node). length (encode m)) (same f)
+
+  with-numbers : ((v : ℕ) → v < suc greatest → f v < suc greatest) → (n : Node) → Sort n → Numbers (encode n) → Numbers (encode (withVariable f n))
+  with-numbers low n (is-variable v) u = (u .0, (low v (u .1 .0), tt))
+  with-numbers low n (no-variable e same) u = subst (λ (m : Node). Numbers (encode m)) (sym (same f)) u
+
+variable-number : (n : Node) → Sort n → Numbers (encode n) → Numbers (variableOf n)
+variable-number n (is-variable v) u = u .1
+variable-number n (no-variable e same) u = subst Numbers (sym e) tt
+
+sum-alike : (n : ℕ) (f g : ℕ → ℕ) → ((y : ℕ) → f y ≡ g y) → sumTo n f ≡ sumTo n g
+sum-alike zero f g h = refl
+sum-alike (suc n) f g h = ap₂ (λ (a b : ℕ). a + b) (sum-alike n f g h) (h n)
+
+-- in either form the nodes are so
+pub modest-in : (form : Form) (ns : List Node) (x : ℕ) → Modest ns → Modest (nodesIn form ns x)
+modest-in Plain ns x b = b
+modest-in Numbered ns x b =
+    let long = numbered-length ns x in
+    let rows : (y : ℕ) → rowLength (normalize-vars ns x) y ≡ rowLength ns y =
+    λ y. ap (λ (n : Node). length (encode n)) (numbered-at ns x y) ∙ with-length _ (nodeAt ns y) (sort-of (nodeAt ns y)) in
+    let low = number-low ns x (suc greatest) (λ y. variable-number (nodeAt ns y) (sort-of (nodeAt ns y)) (b .numbers y)) in
+    record {
+      few = omega (arith, b .few);
+      words =
+          let z = sum-alike (length ns) (rowLength (normalize-vars ns x)) (rowLength ns) rows in
+          let e = ap (λ (k : ℕ). sumTo k (rowLength (normalize-vars ns x))) long in omega (arith, b .words);
+      numbers = λ y. subst (λ (n : Node). Numbers (encode n)) (sym (numbered-at ns x y)) (with-numbers _ low (nodeAt ns y) (sort-of (nodeAt ns y)) (b .numbers y));
+      below = numbered-rooted ns x (record { is = b .below }) .is;
+    }
+
+pub below-in : (form : Form) (ns : List Node) {x : ℕ} → x < length ns → x < length (nodesIn form ns x)
+below-in Plain ns h = h
+below-in Numbered ns {x} h = omega (arith, numbered-length ns x)
+
 -- a node's line at most
 abbrev lineMost : List Node → ℕ → ℕ
 lineMost ns x = 23 + 11 * rowLength ns x
@@ -281,8 +325,13 @@ root-bounded {ns} b {x} lt {id} {s} {passes} {ops} sorted bailed u =
 pub refused-bounded : {id s k : ℕ} → Numbers (id ∷ s ∷ k ∷ []) → length (answerText id s (refusedWith k)) ≤ mostRootText
 refused-bounded {id} {s} {k} u = omega (arith, head-length (2 ∷ id ∷ s ∷ k ∷ []) (omega arith, u))
 
-pub answers-bounded : {n : ℕ} → n < suc greatest → length (answersText n) ≤ mostRootText
-answers-bounded {n} h = omega (arith, head-length (0 ∷ n ∷ []) (omega arith, (h, tt)))
+numbered-bounded : (form : Form) → length (numberedText form) ≤ 9
+numbered-bounded Plain = omega arith
+numbered-bounded Numbered = omega arith
+
+pub answers-bounded : (form : Form) {n : ℕ} → n < suc greatest → length (answersText form n) ≤ mostRootText
+answers-bounded form {n} h =
+    omega (arith, head-length (0 ∷ n ∷ []) (omega arith, (h, tt)), numbered-bounded form, length-append (headText (0 ∷ n ∷ [])) (numberedText form))
 
 -- the line that a program prints for a refusal
 pub refusal-bounded : {k l : ℕ} → k ≤ greatest → l ≤ greatest → length (lineText (ascii "refused" ∷ decimal k ∷ decimal l ∷ [])) ≤ 30

@@ -27,10 +27,10 @@ use Rattle.rules.specs.Canonicalizer.{compositeKind, composite, settle, topIfEm
 use Rattle.rules.specs.Canonicalizer.{began, begin, expand-bounds-empty-fallback, chain, expansion, boundsOf, preserving, variableRule, namedBound, canonicalize-inner}
 use Rattle.rules.specs.Canonicalizer.{fieldsRule, dynRule, firstMember, interNormalized, interRest, turned, interRetry, interRule, unionNormalized, unionRule, rule}
 use Rattle.rules.specs.Canonicalizer.{work, look, entered, visit, fresh, pass, Answer, Shown, shown, refusedWith, afterSecond, withSet, afterFirst, canonicalize}
-use Rattle.laws.specs.Sound.{Tabled}
+use Rattle.laws.specs.Sound.{Distinct, Tabled}
 use Rattle.rules.specs.declared.Polarity.{Polarity}
 use Rattle.rules.specs.declared.Polarity.the-variants.{Positive, Negative}
-use Rattle.laws.proofs.Storing.{Rooted, rooted-none, by-place, node-before, node-last}
+use Rattle.laws.proofs.Storing.{Rooted, rooted-none, by-place, node-before, node-last, Miss, miss, distinct-none, distinct-more}
 use Rattle.laws.proofs.Keeping.{From, Rising, rising-of, ascending-of}
 use Rattle.laws.proofs.Moving.{begin-known, distinct-known, bounds-known, visit-moves, steady-fresh}
 use Rattle.laws.proofs.Filtering.{under-front, under-back, filter-under}
@@ -74,10 +74,11 @@ FormedEntry names (inter a b) = Unit {0}
 FormedEntry names (union a b) = Unit {0}
 FormedEntry names frozen = ⊥
 
--- each node is so, and they are not too many
+-- each node is so, they are not too many, and no two are equal
 pub record Fine (names : ℕ) (ns : List Node) : Type 0 where
   pub formed : (x : ℕ) → Formed names (nodeAt ns x)
   pub few : length ns ≤ mostNodes
+  pub distinct : Distinct ns
 
 -- the numbers of a run's refusals
 abbrev pub RunNumber : ℕ → Type 0
@@ -104,16 +105,21 @@ module _ (p : ℕ → Bool) where
 
 module _ (names : ℕ) where
   fine-none : Fine names []
-  fine-none = record { formed = λ x. tt; few = omega arith }
+  fine-none = record { formed = λ x. tt; few = omega arith; distinct = distinct-none }
 
-  fine-more : (n : Node) (ns : List Node) → Formed names n → length ns < mostNodes → Fine names ns → Fine names (ns ++ (n ∷ []))
-  fine-more n ns f l h =
-      record { formed = λ x. place x (ltb x (length (ns ++ (n ∷ [])))) refl; few = omega (arith, length-append ns (n ∷ [])) } where
-        place : (x : ℕ) (b : Bool) → ltb x (length (ns ++ (n ∷ []))) ≡ b → Formed names (nodeAt (ns ++ (n ∷ [])) x)
-        place x true e =
-            by-place ns n (λ (i : ℕ). Formed names (nodeAt (ns ++ (n ∷ [])) i))
-            (λ i lt. subst (Formed names) (sym (node-before ns n i lt)) (h .formed i)) (subst (Formed names) (sym (node-last ns n)) f) x (ltb-true x (length (ns ++ (n ∷ []))) e)
-        place x false e = subst (Formed names) (sym (List·getD-eq-default (ns ++ (n ∷ [])) Bottom (ltb-false x (length (ns ++ (n ∷ []))) e))) tt
+  fine-more : (n : Node) (ns : List Node) → Formed names n → length ns < mostNodes → Miss (encode n) (map encode ns) → Fine names ns → Fine names (ns ++ (n ∷ []))
+  fine-more n ns f l m h =
+      record {
+        formed = λ x. place x (ltb x (length (ns ++ (n ∷ [])))) refl;
+        few = omega (arith, length-append ns (n ∷ []));
+        distinct = distinct-more ns n (h .distinct) m;
+      }
+    where
+      place : (x : ℕ) (b : Bool) → ltb x (length (ns ++ (n ∷ []))) ≡ b → Formed names (nodeAt (ns ++ (n ∷ [])) x)
+      place x true e =
+          by-place ns n (λ (i : ℕ). Formed names (nodeAt (ns ++ (n ∷ [])) i))
+          (λ i lt. subst (Formed names) (sym (node-before ns n i lt)) (h .formed i)) (subst (Formed names) (sym (node-last ns n)) f) x (ltb-true x (length (ns ++ (n ∷ []))) e)
+      place x false e = subst (Formed names) (sym (List·getD-eq-default (ns ++ (n ∷ [])) Bottom (ltb-false x (length (ns ++ (n ∷ []))) e))) tt
 
   -- what a step comes to: fine nodes and a value that is so, or a refusal with 6 to 9
   pub data Tells {A : Type 0} (Q : A → Type 0) : Out A → Type 0 where
@@ -151,12 +157,12 @@ module _ (names : ℕ) where
   goes-if : {A : Type 0} (b : Bool) (x y : Unit {0} → Run A) → Goes (x tt) → Goes (y tt) → Goes (if b x y)
   goes-if {A = A} b x y k l = by-branch (λ (m : Run A). Goes m) b x y k l
 
-  keep-tells : (n : Node) (st : State) (f : Option ℕ) → Formed names n → Fine names (st .nodes) → Tells Any (keep n st f)
-  keep-tells n st (some i) f h = gives h tt
-  keep-tells n st none f h =
+  keep-tells : (n : Node) (st : State) (f : Option ℕ) → find (eqList (encode n)) 0 (map encode (st .nodes)) ≡ f → Formed names n → Fine names (st .nodes) → Tells Any (keep n st f)
+  keep-tells n st (some i) q f h = gives h tt
+  keep-tells n st none q f h =
       by-test (Tells Any) (ltb (length (st .nodes)) mostNodes) _ _
       (λ e. by-branch (Tells Any) (ltb mostCells (st .cells + cellsOf n)) _ _ (stops (omega arith, omega arith))
-      (gives (fine-more n (st .nodes) f (ltb-true (length (st .nodes)) mostNodes e) h) tt))
+      (gives (fine-more n (st .nodes) f (ltb-true (length (st .nodes)) mostNodes e) (miss (encode n) (map encode (st .nodes)) 0 q) h) tt))
       (λ e. stops (omega arith, omega arith))
 
   -- a node with no more members than 128
@@ -164,7 +170,7 @@ module _ (names : ℕ) where
   unfolding store
   goes-store n f st h =
       by-test (Tells Any) (ltb mostMembers (length (members n))) _ _ (λ e. stops (omega arith, omega arith))
-      (λ e. keep-tells n st (find (eqList (encode n)) 0 (map encode (st .nodes))) (f (ltb-false mostMembers (length (members n)) e)) h)
+      (λ e. keep-tells n st (find (eqList (encode n)) 0 (map encode (st .nodes))) refl (f (ltb-false mostMembers (length (members n)) e)) h)
 
   goes-limit : (xs : List ℕ) → Goes (limit xs)
   unfolding limit
@@ -593,13 +599,22 @@ pub record ShownFormed (names passes ops : ℕ) (ns : List Node) (x : ℕ) : Typ
   pub once : 1 ≤ passes
   pub twice : passes ≤ 2
   pub counted : ops ≤ greatest
-  pub fine : Fine names ns
+  pub formed : (y : ℕ) → Formed names (nodeAt ns y)
+  pub few : length ns ≤ mostNodes
   pub rooted : Rooted ns
   pub below : x < length ns
 
-pub data Answers (names : ℕ) : Answer → Type 0 where
-  shows : {a : Shown} → ShownFormed names (a .passes) (a .operations) (a .nodes) (a .root) → Answers names (shown a)
-  stops : {k : ℕ} → RunNumber k → Answers names (refusedWith k)
+abbrev pub ShowsFormed : ℕ → Shown → Type 0
+ShowsFormed names a = ShownFormed names (a .passes) (a .operations) (a .nodes) (a .root)
+
+-- what is shown is so, or the root is refused with 6 to 9
+pub data Answers (Is : Shown → Type 0) : Answer → Type 0 where
+  shows : {a : Shown} → Is a → Answers Is (shown a)
+  stops : {k : ℕ} → RunNumber k → Answers Is (refusedWith k)
+
+-- in form, and no two nodes are equal
+abbrev pub ShowsStored : ℕ → Shown → Type 0
+ShowsStored names a = ShowsFormed names a × Distinct (a .nodes)
 
 module _ (names : ℕ) (t : Reader) (id : ℕ) (pol : Polarity) where
   passed : (p : Pass) → FormedPass names p t → id < p .count → (x : ℕ) (st : State) → pass p t id pol ≡ ok x st → Fine names (st .nodes) → Passed names x st
@@ -608,12 +623,18 @@ module _ (names : ℕ) (t : Reader) (id : ℕ) (pol : Polarity) where
       let m = visit-moves p t (b .tabled) mostKeys id pol (fresh (p .count)) x st h (steady-fresh (p .count)) rooted-none e in
       record { fine = f; rooted = m .2; below = m .1; ops = m .0 .counted (omega arith) }
 
+  shown-stored : {x : ℕ} {st : State} (passes ops : ℕ) → 1 ≤ passes → passes ≤ 2 → ops ≤ greatest → Passed names x st
+      → ShownFormed names passes ops (st .nodes) x × Distinct (st .nodes)
+  shown-stored passes ops a b c q =
+      let f = q .fine in
+      (record { once = a; twice = b; counted = c; formed = f .formed; few = f .few; rooted = q .rooted; below = q .below }, f .distinct)
+
   after-second : (p : Pass) → FormedPass names p t → id < p .count → (ops : ℕ) → ops ≤ mostOperations → (sorted bailed : Bool) (o : Out ℕ) → pass p t id pol ≡ o
-      → Tells names (Any names) o → Answers names (afterSecond ops sorted bailed o)
+      → Tells names (Any names) o → Answers (ShowsStored names) (afterSecond ops sorted bailed o)
   after-second p b h ops l sorted bailed (ok x st) e (gives f _) =
       let q = passed p b h x st e f in
       shows {a = record { passes = 2; operations = ops + st .ops; sorted = sorted || st .sorted; bailed = bailed || st .bailed; nodes = st .nodes; root = x }}
-      (record { once = omega arith; twice = omega arith; counted = omega (arith, q .ops); fine = f; rooted = q .rooted; below = q .below })
+      (shown-stored 2 (ops + st .ops) (omega arith) (omega arith) (omega (arith, q .ops)) q)
   after-second p b h ops l sorted bailed (no k) e (stops r) = stops r
 
   -- the second pass is over the same table
@@ -625,17 +646,17 @@ module _ (names : ℕ) (t : Reader) (id : ℕ) (pol : Polarity) where
         entries = b .entries;
       }
 
-  after-first : (p : Pass) → FormedPass names p t → id < p .count → (o : Out ℕ) → pass p t id pol ≡ o → Tells names (Any names) o → Answers names (afterFirst p t id pol o)
+  after-first : (p : Pass) → FormedPass names p t → id < p .count → (o : Out ℕ) → pass p t id pol ≡ o → Tells names (Any names) o → Answers (ShowsStored names) (afterFirst p t id pol o)
   after-first p b h (ok x st) e (gives f _) =
       let q = passed p b h x st e f in
       let c = formed-again p st b in
-      by-branch (Answers names) (any _ (st .bits)) _ _
+      by-branch (Answers (ShowsStored names)) (any _ (st .bits)) _ _
       (after-second (withSet p st) c h (st .ops) (q .ops) (st .sorted) (st .bailed) (pass (withSet p st) t id pol) refl (pass-tells names (withSet p st) t c id pol h))
       (shows {a = record { passes = 1; operations = st .ops; sorted = st .sorted; bailed = st .bailed; nodes = st .nodes; root = x }}
-      (record { once = omega arith; twice = omega arith; counted = omega (arith, q .ops); fine = f; rooted = q .rooted; below = q .below }))
+      (shown-stored 1 (st .ops) (omega arith) (omega arith) (omega (arith, q .ops)) q))
   after-first p b h (no k) e (stops r) = stops r
 
   -- an answer is in form
-  pub answer-formed : (p : Pass) → FormedPass names p t → id < p .count → Answers names (canonicalize p t id pol)
+  pub answer-formed : (p : Pass) → FormedPass names p t → id < p .count → Answers (ShowsStored names) (canonicalize p t id pol)
   unfolding canonicalize
   answer-formed p b h = after-first p b h (pass p t id pol) refl (pass-tells names p t b id pol h)

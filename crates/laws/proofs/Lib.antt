@@ -21,9 +21,12 @@ pub mod Chains
 pub mod Local
 pub mod Spreading
 pub mod Walking
+pub mod Positions
 pub mod Bounding
 pub mod Printed
 pub mod Forming
+pub mod Numbering
+pub mod NumberedAnswers
 pub mod ReadRows
 pub mod PrintedListing
 pub mod OldListing

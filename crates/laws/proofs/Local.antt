@@ -19,8 +19,10 @@ use Rattle.rules.specs.Canonicalizer.{Pass, Reader, Visit, variable, note, hasB
 use Rattle.rules.specs.Canonicalizer.{deduplicated, normalized, expand-bounds, isVariable, isNamed, isPrim, negated, isAtom, lowers, uppers, beginList, Begun, began}
 use Rattle.rules.specs.Canonicalizer.{begin, expand-bounds-empty-fallback, chain, expansion, boundsOf, preserving, variableRule, namedBound, canonicalize-inner}
 use Rattle.rules.specs.Canonicalizer.{fieldsRule, dynRule, firstMember, interRest, turned, interRetry, interRule, unionNormalized, unionRule, rule, work, entered}
-use Rattle.rules.specs.Canonicalizer.{visit, fresh, pass, isBoth, shown, afterSecond, withSet, afterFirst, canonicalize, readerOf, functorNumber, firstPass, answerOf}
+use Rattle.rules.specs.Canonicalizer.{visit, fresh, pass, isBoth, Answer, shown, afterSecond, withSet, afterFirst, canonicalize, readerOf, functorNumber, firstPass, answerOf}
 use Rattle.rules.specs.Listing.{answerText, rootText}
+use Rattle.rules.specs.Variables.{answerIn}
+use Rattle.rules.specs.declared.Form.{Form}
 use Rattle.rules.specs.Calls.{same, samePair, sameRoot, comparable, rowAt, differs}
 use Rattle.rules.specs.Chains.{StepsTo, Chain, here, onward, MeetsDifference}
 use Rattle.rules.specs.declared.Polarity.{Polarity}
@@ -329,6 +331,7 @@ answer-local old new q id h pol =
     ∙ ap (λ (p : Pass). canonicalize p (readerOf new) id pol) (first-same old new (alike old new q))
 
 -- and so do its lines
-pub text-local : (old new : Table) → comparable old new ≡ true → (id s : ℕ) → (MeetsDifference old new id → ⊥) → rootText old id s ≡ rootText new id s
+pub text-local : (form : Form) (old new : Table) → comparable old new ≡ true → (id s : ℕ) → (MeetsDifference old new id → ⊥)
+    → rootText form old id s ≡ rootText form new id s
 unfolding rootText
-text-local old new q id s h = ap (answerText id s) (answer-local old new q id h (polarityOf s))
+text-local form old new q id s h = ap (λ (a : Answer). answerText id s (answerIn form a)) (answer-local old new q id h (polarityOf s))

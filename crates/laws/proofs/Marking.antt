@@ -11,6 +11,8 @@ use Rattle.rules.specs.Text.{decimal, fieldText, shapeTexts, noKind, rowTexts}
 use Rattle.rules.specs.Table.{Table, Root}
 use Rattle.rules.specs.Canonicalizer.{Pass, Reader, isBoth, pass, Answer, shown, afterSecond, withSet, afterFirst, canonicalize, readerOf, firstPass, answerOf}
 use Rattle.rules.specs.Types.{polarityOf}
+use Rattle.rules.specs.declared.Form.the-variants.{Plain}
+use Rattle.laws.proofs.NumberedAnswers.{plain-answer}
 use Rattle.rules.specs.Listing.{rootHead, headKinds, headText, nodeTexts, walk, answerText, answersText, rootText, rootTextOf, listingText}
 use Rattle.rules.specs.declared.Polarity.{Polarity}
 use Rattle.laws.specs.Marks.{ofOne, ofBoth, afterSecondAlone, afterFirstAlone, answerAlone, listingAlone, didBail, markedToo, Moves, stays, rises}
@@ -107,10 +109,12 @@ joined-as-long f g e (r ∷ rs) =
     length-append (f r) (joined (map f rs)) ∙ ap₂ (λ (m n : ℕ). m + n) (e r) (joined-as-long f g e rs) ∙ sym (length-append (g r) (joined (map g rs)))
 
 -- and its listing has as many bytes, so that refusal 12 comes where it came
-pub listing-as-long : (t : Table) → length (listingAlone t) ≡ length (listingText t)
+pub listing-as-long : (t : Table) → length (listingAlone t) ≡ length (listingText Plain t)
 unfolding listingText rootText
 listing-as-long t =
-    let head = answersText (length (t .roots)) in
+    let head = answersText Plain (length (t .roots)) in
     length-append head _
-    ∙ ap (λ (n : ℕ). length head + n) (joined-as-long _ (rootTextOf t) (λ r. answer-as-long (r .id) (r .sign) (mark-moves t (r .id) (polarityOf (r .sign)))) (t .roots))
-    ∙ sym (length-append head (joined (map (rootTextOf t) (t .roots))))
+    ∙ ap (λ (n : ℕ). length head + n) (joined-as-long _ (rootTextOf Plain t)
+    (λ r. answer-as-long (r .id) (r .sign) (mark-moves t (r .id) (polarityOf (r .sign)))
+    ∙ ap (λ (a : Answer). length (answerText (r .id) (r .sign) a)) (sym (plain-answer (answerOf t (r .id) (polarityOf (r .sign)))))) (t .roots))
+    ∙ sym (length-append head (joined (map (rootTextOf Plain t) (t .roots))))

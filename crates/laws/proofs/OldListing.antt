@@ -15,7 +15,9 @@ use Rattle.rules.specs.Ceilings.{mostText}
 use Rattle.rules.specs.Text.{tab, lineFeed, cut, pieces, parted, greatest, digit, digits, number, decimalBy, decimal, aNumber, fieldOf, byShape, tagged}
 use Rattle.rules.specs.Text.{noKind, byWord, rowOf, fieldText, rowTexts}
 use Rattle.rules.specs.Table.{Root, Result, accepted, refused, then}
-use Rattle.rules.specs.Listing.{rootHead, refusedHead, headKinds, answersText, nodeInForm, Taking, nextLine, takeLine, takeNode, takeNodes}
+use Rattle.rules.specs.declared.Form.{Form}
+use Rattle.rules.specs.declared.Form.the-variants.{Plain, Numbered}
+use Rattle.rules.specs.Listing.{answersHead, headText, numberedText, takeNumbered, rootHead, refusedHead, headKinds, answersText, nodeInForm, Taking, nextLine, takeLine, takeNode, takeNodes}
 use Rattle.rules.specs.Listing.{nodesAfter, takeAfter, takeRoot, blank, atEnd, takeRoots, isAnswers, oldListing}
 use Rattle.laws.proofs.Storing.{eqList-true}
 use Rattle.laws.proofs.Admitting.{both-parts}
@@ -230,7 +232,7 @@ shape-turn n (p ∷ q ∷ ps) e = many-turn (fieldOf aNumber p) e
     many-turn none e = true-false (sym e)
     many-turn (some x) e = true-false (sym e)
 
-answers-line : (n : ℕ) (l : List ℕ) → isAnswers n (rowOf headKinds l) ≡ true → l ++ (lineFeed ∷ []) ≡ answersText n
+answers-line : (n : ℕ) (l : List ℕ) → isAnswers n (rowOf headKinds l) ≡ true → l ++ (lineFeed ∷ []) ≡ headText (answersHead ∷ n ∷ [])
 unfolding rowOf rowTexts fieldText
 answers-line n l e =
     ap (λ (m : List ℕ). m ++ (lineFeed ∷ [])) (sym (parted-pieces tab l) ∙ ap (parted tab) (by-words (pieces tab l) e))
@@ -249,22 +251,38 @@ answers-line n l e =
         (λ q. by-test (λ (m : Option (List ℕ)). isAnswers n m ≡ true → w ∷ fs ≡ ascii "answers" ∷ decimal n ∷ []) (eqList w (ascii "refused")) _ _
         (λ q f. other 1 (byShape (getD headKinds refusedHead noKind .shape) fs) f) (λ q f. true-false (sym f)))) e
 
+-- the line `numbered` has one form
+numbered-whole : (form : Form) (c d : Taking) → takeNumbered form c ≡ accepted d → parted lineFeed (c .rest) ≡ numberedText form ++ parted lineFeed (d .rest)
+numbered-whole Plain c d e = let q : d ≡ c = cc in ap (λ (x : Taking). parted lineFeed (x .rest)) (sym q)
+numbered-whole Numbered c d e =
+    let n = next-accepted (c .line) (c .rest) _ d e in
+    let p = passed 11 (c .line) (eqList (n .line) (ascii "numbered")) _ (n .next) in
+    let z = p .1 in
+    let q : takeLine c (n .line) (n .rest) ≡ d = cc in
+    n .whole ∙ ap₂ {C = List ℕ} (λ (l m : List ℕ). l ++ (lineFeed ∷ m)) (eqList-true (n .line) (ascii "numbered") (p .0))
+    (ap (λ (x : Taking). parted lineFeed (x .rest)) q)
+
 -- an old listing in form, by the lines of each root that are read from it
-pub record InForm (roots : List Root) (l : List ℕ) (texts : List (List ℕ)) : Type 0 where
+pub record InForm (form : Form) (roots : List Root) (l : List ℕ) (texts : List (List ℕ)) : Type 0 where
   pub short : length l ≤ mostText
-  pub is : l ≡ answersText (length roots) ++ joined texts
+  pub is : l ≡ answersText form (length roots) ++ joined texts
   pub many : length texts ≡ length roots
 
-pub in-form : (names : ℕ) (roots : List Root) (l : List ℕ) (texts : List (List ℕ)) → oldListing names roots l ≡ accepted texts → InForm roots l texts
+pub in-form : (form : Form) (names : ℕ) (roots : List Root) (l : List ℕ) (texts : List (List ℕ)) → oldListing form names roots l ≡ accepted texts
+    → InForm form roots l texts
 unfolding oldListing
-in-form names roots l texts e =
+in-form form names roots l texts e =
     let s = not-stopped 11 0 (ltb mostText (length l)) _ e in
     let n = next-accepted 1 (pieces lineFeed l) _ texts (s .1) in
     let p = passed 11 1 (isAnswers (length roots) (rowOf headKinds (n .line))) _ (n .next) in
-    let t = roots-taken names roots (record { text = []; line = 2; rest = n .rest }) texts (p .1) in
+    let c : Taking = record { text = []; line = 2; rest = n .rest } in
+    let h = comes (takeNumbered form c) (λ (d : Taking). takeRoots names roots d) texts (p .1) in
+    let t = roots-taken names roots (h .value) texts (h .next) in
     record {
       short = ltb-false mostText (length l) (s .0);
       is = sym (parted-pieces lineFeed l) ∙ n .whole ∙ sym (append-assoc (n .line) (lineFeed ∷ []) (parted lineFeed (n .rest)))
-          ∙ ap₂ {C = List ℕ} (λ (x y : List ℕ). x ++ y) (answers-line (length roots) (n .line) (p .0)) (sym (t .all));
+          ∙ ap₂ {C = List ℕ} (λ (x y : List ℕ). x ++ y) (answers-line (length roots) (n .line) (p .0))
+          (numbered-whole form c (h .value) (h .is) ∙ ap (λ (m : List ℕ). numberedText form ++ m) (sym (t .all)))
+          ∙ sym (append-assoc (headText (answersHead ∷ length roots ∷ [])) (numberedText form) (joined texts));
       many = t .many;
     }

@@ -8,14 +8,18 @@ use mathlib.Core.List.{List, [], _∷_, _++_, map, append-nil, append-assoc}
 use lib.ListN.{length, getD, length-append, length-map}
 use lib.Dec.{eqb, ltb, leb}
 use borrow.Author.Tests.{lt-ltb, le-ltb, leb-true, le-leb, eq-eqb}
-use Rattle.cells.specs.Part.{if}
-use Rattle.rules.specs.Plain.{all, contains, both, flag, joined, ascending, position}
+use Rattle.cells.specs.Part.{if, eqList}
+use Rattle.rules.specs.Plain.{ascii, all, contains, both, flag, joined, ascending, position}
 use Rattle.rules.specs.Ceilings.{mostText, mostNames, mostMembers, mostNodes}
 use Rattle.rules.specs.Text.{tab, lineFeed, cut, pieces, parted, greatest, number, decimal, aFlag, aList, aDyn, someFields, byShape, Kind, noKind, tagged, byWord, rowOf, rowTexts, lineText}
 use Rattle.rules.specs.Table.{Root, Field, Attr, fieldTypes, fieldKeys, dynIds, keysIn, keysAscend, allBelow, Table, Result, accepted, refused, then, tableOf}
 use Rattle.rules.specs.Types.{Node, TyVar, Primitive, ListOf, Lambda, AttrSet, Union, Intersection, Named, Neg, Bottom, Top, nodeKinds, fieldWords, dynWords, encode}
 use Rattle.rules.specs.Types.{members, asAttr, children, nodeAt, polarityOf}
 use Rattle.rules.specs.Canonicalizer.{Answer, shown, refusedWith, firstPass, readerOf, answerOf}
+use Rattle.rules.specs.Variables.{answerIn}
+use Rattle.rules.specs.declared.Form.{Form}
+use Rattle.rules.specs.declared.Form.the-variants.{Plain, Numbered}
+use Rattle.rules.specs.Listing.{numberedText, takeNumbered}
 use Rattle.rules.specs.Listing.{headKinds, headText, walk, renumberField, renumberDyn, renumber, nodeText, nodeTexts, answerText, rootText, rootTextOf, answersText}
 use Rattle.rules.specs.Listing.{listingText, nodeOf, nodeFits, rowFits, isNumber, nodeLineFits, nodeInForm, Taking, nextLine, takeLine, takeNode, takeNodes, within}
 use Rattle.rules.specs.Listing.{forRoot, nodesAfter, takeAfter, takeRoot, blank, atEnd, takeRoots, isAnswers, oldListing}
@@ -25,7 +29,8 @@ use Rattle.laws.proofs.Rooting.{All}
 use Rattle.laws.proofs.Printed.{all-more, every-more, Over, Free, over-free, pieces-at, pieces-parted, free-parted, number-decimal, digits-over, Numbers, Says}
 use Rattle.laws.proofs.Printed.{says-number, says-code, says-flag, says-list, says-fields, says-dyn, says-sign, Shaped, end, then as next, shaped-reads}
 use Rattle.laws.proofs.Walking.{Steps, walk-steps, walk-some, walk-few, position-within}
-use Rattle.laws.proofs.Forming.{FormedSet, Formed, Fine, RunNumber, Answers, shows, stops, answer-formed}
+use Rattle.laws.proofs.NumberedAnswers.{formed-in}
+use Rattle.laws.proofs.Forming.{FormedSet, Formed, RunNumber, ShowsFormed, Answers, shows, stops, answer-formed}
 use Rattle.laws.proofs.ReadRows.{few-names, accepted-formed, KnownRoots, roots-known}
 use Rattle.laws.proofs.Filtering.{under-both}
 use Rattle.laws.proofs.Containing.{flag-few}
@@ -276,7 +281,7 @@ module _ (names : ℕ) (h : names ≤ mostNames) where
       ap (λ (ps : List (List ℕ)). nextLine (c .line) ps f) e ∙ next-line (c .line) l rest f (n .free)
       ∙ ap (λ (b : Bool). if b (λ _. accepted (takeLine c l (pieces lineFeed rest))) (λ _. refused 11 (c .line))) (n .fits)
 
-  module _ (ns : List Node) (fine : Fine names ns) (seen : List ℕ) where
+  module _ (ns : List Node) (formed : (x : ℕ) → Formed names (nodeAt ns x)) (seen : List ℕ) where
     child-lands : (pre post kids : List ℕ) → seen ≡ pre ++ post → All (λ (y : ℕ). contains pre y ≡ true) kids → Lands (λ (y : ℕ). position (eqb y) seen) (length pre) kids
     child-lands pre post kids e a =
         all-more (λ (y : ℕ). contains pre y ≡ true) (λ (y : ℕ). position (eqb y) seen < length pre)
@@ -295,7 +300,7 @@ module _ (names : ℕ) (h : names ≤ mostNames) where
         let more = nodeTexts ns seen (suc k) xs in
         let lands = child-lands pre (x ∷ xs) (children (nodeAt ns x)) s (w .0 .kids) in
         let u : Under k (children (here x)) = subst (λ (j : ℕ). Under j (children (here x))) (sym i) (lands-children (λ (y : ℕ). position (eqb y) seen) (length pre) (nodeAt ns x) lands) in
-        let n = node-line names k (here x) h (omega arith) (formed-renumber names (λ (y : ℕ). position (eqb y) seen) (nodeAt ns x) (fine .formed x)) u in
+        let n = node-line names k (here x) h (omega arith) (formed-renumber names (λ (y : ℕ). position (eqb y) seen) (nodeAt ns x) (formed x)) u in
         let d = takeLine c l (pieces lineFeed (more ++ rest)) in
         let t = take-node k l (more ++ rest) c n (e ∙ ap (pieces lineFeed) (line-first l more rest)) in
         let r = take-nodes (pre ++ (x ∷ [])) xs (suc k) rest d (s ∙ sym (append-assoc pre (x ∷ []) xs)) (omega (arith, length-append pre (x ∷ []))) (omega arith) (w .1) refl in
@@ -349,7 +354,7 @@ module _ (names : ℕ) (h : names ≤ mostNames) where
     shown-after passes ops sorted bailed n a b c d =
         rw (for-root 1 (passes ∷ ops ∷ flag sorted ∷ flag bailed ∷ n ∷ []), within-true 1 2 passes a b, within-true 1 mostNodes n c d)
 
-    take-answer : (a : Answer) → Answers names a → (rest : List ℕ) (c : Taking) → c .rest ≡ pieces lineFeed (answerText (root .id) (root .sign) a ++ rest)
+    take-answer : (a : Answer) → Answers (ShowsFormed names) a → (rest : List ℕ) (c : Taking) → c .rest ≡ pieces lineFeed (answerText (root .id) (root .sign) a ++ rest)
         → Takes (answerText (root .id) (root .sign) a) rest c (takeRoot names root c)
     take-answer (refusedWith k) (stops r) rest c e =
         let row : List ℕ = 2 ∷ root .id ∷ root .sign ∷ k ∷ [] in
@@ -362,7 +367,7 @@ module _ (names : ℕ) (h : names ≤ mostNames) where
     take-answer (shown a) (shows s) rest c e =
         let passes = a .passes in let ops = a .operations in let sorted = a .sorted in let bailed = a .bailed in let ns = a .nodes in let x = a .root in
         let w = walk ns x in
-        let few : length w ≤ mostNodes = omega (arith, walk-few ns (s .rooted) x (s .below), s .fine .few) in
+        let few : length w ≤ mostNodes = omega (arith, walk-few ns (s .rooted) x (s .below), s .few) in
         let row = shownRow passes ops sorted bailed (length w) in
         let l = parted tab (rowTexts headKinds row) in
         let more = nodeTexts ns w 0 w in
@@ -370,7 +375,7 @@ module _ (names : ℕ) (h : names ≤ mostNames) where
         let t = take-head row (length w) (more ++ rest) c (shown-row passes ops sorted bailed (length w) (s .twice) (s .counted) few)
         (shown-after passes ops sorted bailed (length w) (s .once) (s .twice) (walk-some ns (s .rooted) x (s .below)) few)
         (e ∙ ap (pieces lineFeed) (append-assoc (headText row) more rest)) in
-        let r = take-nodes ns (s .fine) w [] w 0 rest d refl refl (omega arith) (walk-steps ns (s .rooted) x (s .below)) refl in
+        let r = take-nodes ns (s .formed) w [] w 0 rest d refl refl (omega arith) (walk-steps ns (s .rooted) x (s .below)) refl in
         record {
           line = r .line;
           is = t ∙ r .is ∙ ap (λ (got : List ℕ). accepted (record { text = got; line = r .line; rest = pieces lineFeed rest })) (line-last (c .text) l more);
@@ -386,52 +391,73 @@ answer-some id s (shown a) =
     line-some (rowTexts headKinds (1 ∷ id ∷ s ∷ a .passes ∷ a .operations ∷ flag (a .sorted) ∷ flag (a .bailed) ∷ length (walk (a .nodes) (a .root)) ∷ []))
     (nodeTexts (a .nodes) (walk (a .nodes) (a .root)) 0 (walk (a .nodes) (a .root)))
 
-roots-few : (t : Table) (roots : List Root) → length roots ≤ length (joined (map (rootTextOf t) roots))
+roots-few : (form : Form) (t : Table) (roots : List Root) → length roots ≤ length (joined (map (rootTextOf form t) roots))
 unfolding rootText
-roots-few t [] = omega arith
-roots-few t (root ∷ roots) =
-    let r = roots-few t roots in
-    let s = answer-some (root .id) (root .sign) (answerOf t (root .id) (polarityOf (root .sign))) in
-    omega (arith, length-append (rootTextOf t root) (joined (map (rootTextOf t) roots)))
+roots-few form t [] = omega arith
+roots-few form t (root ∷ roots) =
+    let r = roots-few form t roots in
+    let s = answer-some (root .id) (root .sign) (answerIn form (answerOf t (root .id) (polarityOf (root .sign)))) in
+    omega (arith, length-append (rootTextOf form t root) (joined (map (rootTextOf form t) roots)))
 
-module _ (text : List ℕ) (t : Table) (e : tableOf text ≡ accepted t) where
+-- the line `numbered`, if there is one, is taken
+take-numbered : (form : Form) (rest : List ℕ) (c : Taking) → c .rest ≡ pieces lineFeed (numberedText form ++ rest) → Takes (numberedText form) rest c (takeNumbered form c)
+take-numbered Plain rest c e =
+    record { line = c .line; is = λ j. accepted (record { text = sym (append-nil (c .text)) j; line = c .line; rest = e j }) }
+take-numbered Numbered rest c e =
+    let l = ascii "numbered" in
+    let f : List ℕ → List (List ℕ) → Result Taking = λ l ls. if (eqList l (ascii "numbered")) (λ _. accepted (takeLine c l ls)) (λ _. refused 11 (c .line)) in
+    record {
+      line = suc (c .line);
+      is = ap (λ (ps : List (List ℕ)). nextLine (c .line) ps f) e ∙ next-line (c .line) l rest f (over-line l (over-by 43 l refl))
+          ∙ ap (λ (got : List ℕ). accepted (record { text = got; line = suc (c .line); rest = pieces lineFeed rest })) (append-assoc (c .text) l (lineFeed ∷ []));
+    }
+
+module _ (form : Form) (text : List ℕ) (t : Table) (e : tableOf text ≡ accepted t) where
   abbrev names : ℕ
   names = length (t .names)
 
-  take-root : (root : Root) → root .id < length (t .entries) → root .sign ≤ 1 → (rest : List ℕ) (c : Taking) → c .rest ≡ pieces lineFeed (rootTextOf t root ++ rest)
-      → Takes (rootTextOf t root) rest c (takeRoot names root c)
+  take-root : (root : Root) → root .id < length (t .entries) → root .sign ≤ 1 → (rest : List ℕ) (c : Taking) → c .rest ≡ pieces lineFeed (rootTextOf form t root ++ rest)
+      → Takes (rootTextOf form t root) rest c (takeRoot names root c)
   unfolding rootText answerOf firstPass
   take-root root lt s rest c q =
       let p = accepted-formed text t e in
       let few = p .tabled .few in
-      take-answer names (few-names text t e) root (omega arith) s (answerOf t (root .id) (polarityOf (root .sign)))
-      (answer-formed names (readerOf t) (root .id) (polarityOf (root .sign)) (firstPass t) p lt) rest c q
+      take-answer names (few-names text t e) root (omega arith) s (answerIn form (answerOf t (root .id) (polarityOf (root .sign))))
+      (formed-in names form (answerOf t (root .id) (polarityOf (root .sign)))
+      (answer-formed names (readerOf t) (root .id) (polarityOf (root .sign)) (firstPass t) p lt)) rest c q
 
   take-roots : (roots : List Root) → KnownRoots (length (t .entries)) roots → (c : Taking)
-      → c .rest ≡ pieces lineFeed (joined (map (rootTextOf t) roots)) → takeRoots names roots c ≡ accepted (map (rootTextOf t) roots)
+      → c .rest ≡ pieces lineFeed (joined (map (rootTextOf form t) roots)) → takeRoots names roots c ≡ accepted (map (rootTextOf form t) roots)
   unfolding pieces
   take-roots [] k c q = ap (atEnd (c .line)) q
   take-roots (root ∷ roots) k c q =
-      let r = take-root root (k .0 .0) (k .0 .1) (joined (map (rootTextOf t) roots)) (blank c) q in
-      let d : Taking = record { text = rootTextOf t root; line = r .line; rest = pieces lineFeed (joined (map (rootTextOf t) roots)) } in
+      let r = take-root root (k .0 .0) (k .0 .1) (joined (map (rootTextOf form t) roots)) (blank c) q in
+      let d : Taking = record { text = rootTextOf form t root; line = r .line; rest = pieces lineFeed (joined (map (rootTextOf form t) roots)) } in
       ap (λ (o : Result Taking). then o (λ (d : Taking). then (takeRoots names roots d) (λ (ts : List (List ℕ)). accepted (d .text ∷ ts)))) (r .is)
-      ∙ ap (λ (o : Result (List (List ℕ))). then o (λ (ts : List (List ℕ)). accepted (rootTextOf t root ∷ ts))) (take-roots roots (k .1) d refl)
+      ∙ ap (λ (o : Result (List (List ℕ))). then o (λ (ts : List (List ℕ)). accepted (rootTextOf form t root ∷ ts))) (take-roots roots (k .1) d refl)
 
   -- the printed listing, where it fits, is in form and falls into exactly its roots' lines
-  pub printed-listing : length (listingText t) ≤ mostText → oldListing names (t .roots) (listingText t) ≡ accepted (map (rootTextOf t) (t .roots))
+  pub printed-listing : length (listingText form t) ≤ mostText → oldListing form names (t .roots) (listingText form t) ≡ accepted (map (rootTextOf form t) (t .roots))
   unfolding oldListing listingText
   printed-listing fits =
       let n = length (t .roots) in
       let row : List ℕ = 0 ∷ n ∷ [] in
       let l = parted tab (rowTexts headKinds row) in
-      let rest = joined (map (rootTextOf t) (t .roots)) in
-      let few : n ≤ greatest = omega (arith, roots-few t (t .roots), length-append (answersText n) rest) in
+      let lines = joined (map (rootTextOf form t) (t .roots)) in
+      let rest = numberedText form ++ lines in
+      let few : n ≤ greatest = omega (arith, roots-few form t (t .roots), length-append (answersText form n) lines) in
       let r : RowReads headKinds row = row-reads headKinds 0 (n ∷ []) (λ fs. refl) refl (last (says-number n few)) in
       let c : Taking = record { text = []; line = 2; rest = pieces lineFeed rest } in
+      let h = take-numbered form lines c refl in
+      let d : Taking = record { text = numberedText form; line = h .line; rest = pieces lineFeed lines } in
       let f : List ℕ → List (List ℕ) → Result (List (List ℕ)) =
-      λ l ls. if (isAnswers n (rowOf headKinds l)) (λ _. takeRoots names (t .roots) (record { text = []; line = 2; rest = ls })) (λ _. refused 11 1) in
-      rw (le-ltb mostText (length (answersText n ++ rest)) fits)
-      (ap (λ (whole : List ℕ). nextLine 1 (pieces lineFeed whole) f) (append-assoc l (lineFeed ∷ []) rest)
+      λ l ls. if (isAnswers n (rowOf headKinds l))
+      (λ _. then (takeNumbered form (record { text = []; line = 2; rest = ls })) (λ (c : Taking). takeRoots names (t .roots) c)) (λ _. refused 11 1) in
+      rw (le-ltb mostText (length (answersText form n ++ lines)) fits)
+      (ap (λ (whole : List ℕ). nextLine 1 (pieces lineFeed whole) f)
+      (append-assoc (headText row) (numberedText form) lines ∙ append-assoc l (lineFeed ∷ []) rest)
       ∙ next-line 1 l rest f (line-free (rowTexts headKinds row) (r .over))
-      ∙ ap (λ (b : Bool). if b (λ _. takeRoots names (t .roots) c) (λ _. refused 11 1)) (ap (isAnswers n) (row-line headKinds row r) ∙ eq-eqb n n refl)
-      ∙ take-roots (t .roots) (roots-known text t e) c refl)
+      ∙ ap (λ (b : Bool). if b (λ _. then (takeNumbered form c) (λ (c : Taking). takeRoots names (t .roots) c)) (λ _. refused 11 1))
+      (ap (isAnswers n) (row-line headKinds row r) ∙ eq-eqb n n refl)
+      ∙ ap (λ (o : Result Taking). then o (λ (c : Taking). takeRoots names (t .roots) c)) (h .is)
+      ∙ take-roots (t .roots) (roots-known text t e) d refl)

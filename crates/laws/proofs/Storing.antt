@@ -57,6 +57,12 @@ pub eqList-refl : (xs : List ℕ) → eqList xs xs ≡ true
 eqList-refl [] = refl
 eqList-refl (x ∷ xs) = ap (λ (b : Bool). if b (λ _. eqList xs xs) (λ _. false)) (eq-eqb x x refl) ∙ eqList-refl xs
 
+-- a test that tells whether two lists are equal
+pub eqList-told : (b c : Bool) (xs ys : List ℕ) → (b ≡ true → xs ≡ ys) × (xs ≡ ys → b ≡ true) → eqList xs ys ≡ c → c ≡ b
+eqList-told true c xs ys f e = sym e ∙ ap (λ (l : List ℕ). eqList l ys) (f .0 refl) ∙ eqList-refl ys
+eqList-told false true xs ys f e = sym (f .1 (eqList-true xs ys e))
+eqList-told false false xs ys f e = refl
+
 -- the search found e at place j, counted from i; or nowhere
 pub record Hit (e : List ℕ) (rs : List (List ℕ)) (i j : ℕ) : Type 0 where
   pub from : i ≤ j

@@ -24,7 +24,7 @@ left-turn : (b : Bool) (c d : Bool) → (c ≡ true → d ≡ true) → if b (λ
 left-turn true c d f h = refl
 left-turn false c d f h = f h
 
-contains-left : (xs ys : List ℕ) (y : ℕ) → contains xs y ≡ true → contains (xs ++ ys) y ≡ true
+pub contains-left : (xs ys : List ℕ) (y : ℕ) → contains xs y ≡ true → contains (xs ++ ys) y ≡ true
 contains-left [] ys y h = true-false (sym h)
 contains-left (z ∷ xs) ys y h = left-turn (eqb y z) (contains xs y) (contains (xs ++ ys) y) (contains-left xs ys y) h
 
@@ -120,13 +120,13 @@ pub walk-few : (ns : List Node) → Rooted ns → (x : ℕ) → x < length ns �
 walk-few ns r x h = spread-few (walk-spread ns r x h)
 
 -- what is contained is the first, or is among the rest
-by-first : {A : Type 0} (x z : ℕ) (xs : List ℕ) → contains (z ∷ xs) x ≡ true → (x ≡ z → A) → (contains xs x ≡ true → A) → A
+pub by-first : {A : Type 0} (x z : ℕ) (xs : List ℕ) → contains (z ∷ xs) x ≡ true → (x ≡ z → A) → (contains xs x ≡ true → A) → A
 by-first {A} x z xs c f g = turn (eqb x z) refl c where
   turn : (b : Bool) → eqb x z ≡ b → if b (λ _. true) (λ _. contains xs x) ≡ true → A
   turn true e c = f (eqb-true x z e)
   turn false e c = g c
 
-all-has : (P : ℕ → Type 0) (xs : List ℕ) (y : ℕ) → All P xs → contains xs y ≡ true → P y
+pub all-has : (P : ℕ → Type 0) (xs : List ℕ) (y : ℕ) → All P xs → contains xs y ≡ true → P y
 all-has P [] y h c = true-false (sym c)
 all-has P (x ∷ xs) y h c = by-first y x xs c (λ e. subst P (sym e) (h .0)) (λ d. all-has P xs y (h .1) d)
 

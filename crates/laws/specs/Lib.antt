@@ -2,3 +2,4 @@
 pub mod Sound
 pub mod Indexed
 pub mod Marks
+pub mod Variables

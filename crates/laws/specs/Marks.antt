@@ -10,6 +10,7 @@ use Rattle.rules.specs.Types.{State, Out, ok, no}
 use Rattle.rules.specs.Table.{Table, Root}
 use Rattle.rules.specs.Canonicalizer.{Pass, Reader, isBoth, pass, Shown, Answer, shown, refusedWith, withSet, readerOf, firstPass}
 use Rattle.rules.specs.Listing.{answerText, answersText}
+use Rattle.rules.specs.declared.Form.the-variants.{Plain}
 use Rattle.rules.specs.Types.{polarityOf}
 use Rattle.rules.specs.declared.Polarity.{Polarity}
 
@@ -37,7 +38,7 @@ answerAlone t id pol = afterFirstAlone (firstPass t) (readerOf t) id pol (pass (
 
 -- the listing of a table as it was
 abbrev pub listingAlone : Table → List ℕ
-listingAlone t = answersText (length (t .roots)) ++ joined (map (λ (root : Root). answerText (root .id) (root .sign) (answerAlone t (root .id) (polarityOf (root .sign)))) (t .roots))
+listingAlone t = answersText Plain (length (t .roots)) ++ joined (map (λ (root : Root). answerText (root .id) (root .sign) (answerAlone t (root .id) (polarityOf (root .sign)))) (t .roots))
 
 -- whether a pass bailed; one that is refused shows nothing
 abbrev pub didBail : Out ℕ → Bool

@@ -12,6 +12,7 @@ use Rattle.rules.specs.Text.{tab, decimal, fieldText, shapeTexts, listText, key
 use Rattle.rules.specs.Table.{Attr, dynIds}
 use Rattle.rules.specs.Types.{Node, TyVar, Primitive, ListOf, Lambda, AttrSet, Union, Intersection, Named, Neg, Bottom, Top, encode, kindOf, members}
 use Rattle.rules.specs.Types.{nodeAt, fieldWords, dynWords, attrWords}
+use Rattle.rules.specs.Variables.{withVariable}
 use Rattle.rules.specs.Listing.{renumber, renumberField, renumberDyn}
 use Rattle.laws.proofs.Rows.{field-words-length, attr-words-length, node-of, by-kind, nodeBy, encode-injective, union-row, intersection-row, set-dyn}
 use Rattle.laws.proofs.Rows.{set-optional}
@@ -161,96 +162,99 @@ module _ {w : List ℕ} {q : Pass} {ns : List Node} {x : ℕ} (h : Arena w q ns)
       let y : p ≡ suc (suc (cell w x)) = omega arith in
       ap₂ {C = List ℕ} (part w) y c ∙ holds-tail (holds-tail (holds-list row (h .rows x lt))) .is
 
-contents-none : (f : ℕ → ℕ) (n : Node) → (kindOf n ≡ 0 → ⊥) → (kindOf n ≡ 1 → ⊥) → (kindOf n ≡ 2 → ⊥) → (kindOf n ≡ 8 → ⊥) → (kindOf n ≡ 3 → ⊥)
+contents-none : (f : ℕ → ℕ) (v : ℕ) (n : Node) → (kindOf n ≡ 0 → ⊥) → (kindOf n ≡ 1 → ⊥) → (kindOf n ≡ 2 → ⊥) → (kindOf n ≡ 8 → ⊥) → (kindOf n ≡ 3 → ⊥)
     → (kindOf n ≡ 7 → ⊥)
-    → (kindOf n ≡ 4 → ⊥) → (kindOf n ≡ 5 → ⊥) → (kindOf n ≡ 6 → ⊥) → [] ≡ contentsText (renumber f n)
-contents-none f (TyVar x) h₀ h₁ h₂ h₈ h₃ h₇ h₄ h₅ h₆ = absurd (h₀ refl)
-contents-none f (Primitive c) h₀ h₁ h₂ h₈ h₃ h₇ h₄ h₅ h₆ = absurd (h₁ refl)
-contents-none f (ListOf a) h₀ h₁ h₂ h₈ h₃ h₇ h₄ h₅ h₆ = absurd (h₂ refl)
-contents-none f (Lambda a b) h₀ h₁ h₂ h₈ h₃ h₇ h₄ h₅ h₆ = absurd (h₃ refl)
-contents-none f (AttrSet t) h₀ h₁ h₂ h₈ h₃ h₇ h₄ h₅ h₆ = absurd (h₄ refl)
-contents-none f (Union ms) h₀ h₁ h₂ h₈ h₃ h₇ h₄ h₅ h₆ = absurd (h₅ refl)
-contents-none f (Intersection ms) h₀ h₁ h₂ h₈ h₃ h₇ h₄ h₅ h₆ = absurd (h₆ refl)
-contents-none f (Named n a) h₀ h₁ h₂ h₈ h₃ h₇ h₄ h₅ h₆ = absurd (h₇ refl)
-contents-none f (Neg a) h₀ h₁ h₂ h₈ h₃ h₇ h₄ h₅ h₆ = absurd (h₈ refl)
-contents-none f Bottom h₀ h₁ h₂ h₈ h₃ h₇ h₄ h₅ h₆ = refl
-contents-none f Top h₀ h₁ h₂ h₈ h₃ h₇ h₄ h₅ h₆ = refl
+    → (kindOf n ≡ 4 → ⊥) → (kindOf n ≡ 5 → ⊥) → (kindOf n ≡ 6 → ⊥) → [] ≡ contentsText (renumber f (withVariable (λ _. v) n))
+contents-none f v (TyVar x) h₀ h₁ h₂ h₈ h₃ h₇ h₄ h₅ h₆ = absurd (h₀ refl)
+contents-none f v (Primitive c) h₀ h₁ h₂ h₈ h₃ h₇ h₄ h₅ h₆ = absurd (h₁ refl)
+contents-none f v (ListOf a) h₀ h₁ h₂ h₈ h₃ h₇ h₄ h₅ h₆ = absurd (h₂ refl)
+contents-none f v (Lambda a b) h₀ h₁ h₂ h₈ h₃ h₇ h₄ h₅ h₆ = absurd (h₃ refl)
+contents-none f v (AttrSet t) h₀ h₁ h₂ h₈ h₃ h₇ h₄ h₅ h₆ = absurd (h₄ refl)
+contents-none f v (Union ms) h₀ h₁ h₂ h₈ h₃ h₇ h₄ h₅ h₆ = absurd (h₅ refl)
+contents-none f v (Intersection ms) h₀ h₁ h₂ h₈ h₃ h₇ h₄ h₅ h₆ = absurd (h₆ refl)
+contents-none f v (Named n a) h₀ h₁ h₂ h₈ h₃ h₇ h₄ h₅ h₆ = absurd (h₇ refl)
+contents-none f v (Neg a) h₀ h₁ h₂ h₈ h₃ h₇ h₄ h₅ h₆ = absurd (h₈ refl)
+contents-none f v Bottom h₀ h₁ h₂ h₈ h₃ h₇ h₄ h₅ h₆ = refl
+contents-none f v Top h₀ h₁ h₂ h₈ h₃ h₇ h₄ h₅ h₆ = refl
+
+-- a node's contents, v for its variable
+abbrev shownText : List ℕ → ℕ → Node → List ℕ
+shownText work v n = contentsText (renumber (numberOf work) (withVariable (λ _. v) n))
 
 -- the node n in place of node x
-here : (work : List ℕ) (ns : List Node) (x : ℕ) {t : List ℕ} (n : Node) → t ≡ contentsText (renumber (numberOf work) n) → n ≡ nodeAt ns x
-    → t ≡ contentsText (renumber (numberOf work) (nodeAt ns x))
-here work ns x n e f = e ∙ ap (λ (m : Node). contentsText (renumber (numberOf work) m)) f
+here : (work : List ℕ) (ns : List Node) (x v : ℕ) {t : List ℕ} (n : Node) → t ≡ shownText work v n → n ≡ nodeAt ns x → t ≡ shownText work v (nodeAt ns x)
+here work ns x v n e f = e ∙ ap (shownText work v) f
 
 -- a node's contents, kind by kind
-module _ {arena work : List ℕ} {x k : ℕ} (kd : Kind arena x k) where
+module _ {arena work : List ℕ} {x k v : ℕ} (kd : Kind arena x k) where
   as-node : {t : List ℕ} {p r : ℕ} {o o′ : List ℕ} → Wrote t p o o′ r
       → ((q : Pass) (ns : List Node) → Arena arena q ns → x < length ns → kindOf (nodeAt ns x) ≡ k
-      → t ≡ contentsText (renumber (numberOf work) (nodeAt ns x))) → WroteContents arena work x p o o′ r
+      → t ≡ shownText work v (nodeAt ns x)) → WroteContents arena work x v p o o′ r
   as-node g f = record { is = λ {q} {ns} ar lt. wrote-as g (f q ns ar lt (sym (kd .is ar lt))) }
 
   module _ {a p r : ℕ} {o o′ : List ℕ} (wa : Word arena x 1 a) where
-    pub contents-tyvar : k ≡ 0 → Wrote (tab ∷ decimal a) p o o′ r → WroteContents arena work x p o o′ r
+    pub contents-tyvar : k ≡ 0 → Wrote (tab ∷ decimal v) p o o′ r → WroteContents arena work x v p o o′ r
     unfolding fieldText
-    contents-tyvar e g = as-node g (λ q ns ar lt f. here work ns x (TyVar a) (sym (append-nil (tab ∷ decimal a))) (tyvar-at ar lt (f ∙ e) wa))
+    contents-tyvar e g = as-node g (λ q ns ar lt f. here work ns x v (TyVar a) (sym (append-nil (tab ∷ decimal v))) (tyvar-at ar lt (f ∙ e) wa))
 
-    pub contents-primitive : k ≡ 1 → Wrote (tab ∷ decimal a) p o o′ r → WroteContents arena work x p o o′ r
+    pub contents-primitive : k ≡ 1 → Wrote (tab ∷ decimal a) p o o′ r → WroteContents arena work x v p o o′ r
     unfolding fieldText
-    contents-primitive e g = as-node g (λ q ns ar lt f. here work ns x (Primitive a) (sym (append-nil (tab ∷ decimal a))) (primitive-at ar lt (f ∙ e) wa))
+    contents-primitive e g = as-node g (λ q ns ar lt f. here work ns x v (Primitive a) (sym (append-nil (tab ∷ decimal a))) (primitive-at ar lt (f ∙ e) wa))
 
-    pub contents-list : k ≡ 2 → Wrote (tab ∷ numbered work a) p o o′ r → WroteContents arena work x p o o′ r
+    pub contents-list : k ≡ 2 → Wrote (tab ∷ numbered work a) p o o′ r → WroteContents arena work x v p o o′ r
     unfolding fieldText
-    contents-list e g = as-node g (λ q ns ar lt f. here work ns x (ListOf a) (sym (append-nil (tab ∷ numbered work a))) (list-at ar lt (f ∙ e) wa))
+    contents-list e g = as-node g (λ q ns ar lt f. here work ns x v (ListOf a) (sym (append-nil (tab ∷ numbered work a))) (list-at ar lt (f ∙ e) wa))
 
-    pub contents-neg : k ≡ 8 → Wrote (tab ∷ numbered work a) p o o′ r → WroteContents arena work x p o o′ r
+    pub contents-neg : k ≡ 8 → Wrote (tab ∷ numbered work a) p o o′ r → WroteContents arena work x v p o o′ r
     unfolding fieldText
-    contents-neg e g = as-node g (λ q ns ar lt f. here work ns x (Neg a) (sym (append-nil (tab ∷ numbered work a))) (neg-at ar lt (f ∙ e) wa))
+    contents-neg e g = as-node g (λ q ns ar lt f. here work ns x v (Neg a) (sym (append-nil (tab ∷ numbered work a))) (neg-at ar lt (f ∙ e) wa))
 
     module _ {b q : ℕ} {o₁ : List ℕ} (wb : Word arena x 2 b) where
-      pub contents-lambda : k ≡ 3 → Wrote (tab ∷ numbered work a) p o o₁ q → Wrote (tab ∷ numbered work b) q o₁ o′ r → WroteContents arena work x p o o′ r
+      pub contents-lambda : k ≡ 3 → Wrote (tab ∷ numbered work a) p o o₁ q → Wrote (tab ∷ numbered work b) q o₁ o′ r → WroteContents arena work x v p o o′ r
       unfolding fieldText
       contents-lambda e g h = as-node (wrote-more g h)
           (λ _ ns ar lt f.
-          here work ns x (Lambda a b) (ap (λ (l : List ℕ). tab ∷ (numbered work a ++ l)) (sym (append-nil (tab ∷ numbered work b))))
+          here work ns x v (Lambda a b) (ap (λ (l : List ℕ). tab ∷ (numbered work a ++ l)) (sym (append-nil (tab ∷ numbered work b))))
           (lambda-at ar lt (f ∙ e) wa wb))
 
-      pub contents-named : k ≡ 7 → Wrote (tab ∷ decimal a) p o o₁ q → Wrote (tab ∷ numbered work b) q o₁ o′ r → WroteContents arena work x p o o′ r
+      pub contents-named : k ≡ 7 → Wrote (tab ∷ decimal a) p o o₁ q → Wrote (tab ∷ numbered work b) q o₁ o′ r → WroteContents arena work x v p o o′ r
       unfolding fieldText
       contents-named e g h = as-node (wrote-more g h)
           (λ _ ns ar lt f.
-          here work ns x (Named a b) (ap (λ (l : List ℕ). tab ∷ (decimal a ++ l)) (sym (append-nil (tab ∷ numbered work b))))
+          here work ns x v (Named a b) (ap (λ (l : List ℕ). tab ∷ (decimal a ++ l)) (sym (append-nil (tab ∷ numbered work b))))
           (named-at ar lt (f ∙ e) wa wb))
 
-    module _ {v m : ℕ} (at : v ≡ cell arena x) (s : Sum v 2 m) (l : WroteList (numbered work) arena m a p o o′ r) where
-      pub contents-union : k ≡ 5 → WroteContents arena work x p o o′ r
+    module _ {c m : ℕ} (at : c ≡ cell arena x) (s : Sum c 2 m) (l : WroteList (numbered work) arena m a p o o′ r) where
+      pub contents-union : k ≡ 5 → WroteContents arena work x v p o o′ r
       contents-union e = as-node (l .is)
           (λ q ns ar lt f.
           let row = union-row (nodeAt ns x) (f ∙ e) in
-          here work ns x (Union (members (nodeAt ns x)))
+          here work ns x v (Union (members (nodeAt ns x)))
           (ap (λ (xs : List ℕ). tab ∷ listText (map (numbered work) xs)) (members-at ar lt 5 row at s (count-union kd e wa .is ar lt))
           ∙ list-text (numberOf work) (members (nodeAt ns x)))
           (encode-injective (Union (members (nodeAt ns x))) (nodeAt ns x) (sym row)))
 
-      pub contents-intersection : k ≡ 6 → WroteContents arena work x p o o′ r
+      pub contents-intersection : k ≡ 6 → WroteContents arena work x v p o o′ r
       contents-intersection e = as-node (l .is)
           (λ q ns ar lt f.
           let row = intersection-row (nodeAt ns x) (f ∙ e) in
-          here work ns x (Intersection (members (nodeAt ns x)))
+          here work ns x v (Intersection (members (nodeAt ns x)))
           (ap (λ (xs : List ℕ). tab ∷ listText (map (numbered work) xs)) (members-at ar lt 6 row at s (count-intersection kd e wa .is ar lt))
           ∙ list-text (numberOf work) (members (nodeAt ns x)))
           (encode-injective (Intersection (members (nodeAt ns x))) (nodeAt ns x) (sym row)))
 
-  pub contents-set : {a p r : ℕ} {o o′ : List ℕ} → k ≡ 4 → SetPlace arena x a → WroteSet arena work a p o o′ r → WroteContents arena work x p o o′ r
+  pub contents-set : {a p r : ℕ} {o o′ : List ℕ} → k ≡ 4 → SetPlace arena x a → WroteSet arena work a p o o′ r → WroteContents arena work x v p o o′ r
   contents-set e s g = record {
     is = λ {q} {ns} ar lt.
         let f = sym (kd .is ar lt) ∙ e in
-        wrote-as (g .is (set-at ar lt f s)) (ap (λ (m : Node). contentsText (renumber (numberOf work) m)) (node-of (nodeAt ns x) 4 f));
+        wrote-as (g .is (set-at ar lt f s)) (ap (shownText work v) (node-of (nodeAt ns x) 4 f));
   }
 
   pub contents-empty : {p : ℕ} {o : List ℕ} → (k ≡ 0 → ⊥) → (k ≡ 1 → ⊥) → (k ≡ 2 → ⊥) → (k ≡ 8 → ⊥) → (k ≡ 3 → ⊥) → (k ≡ 7 → ⊥) → (k ≡ 4 → ⊥) → (k ≡ 5 → ⊥)
       → (k ≡ 6 → ⊥)
-      → WroteContents arena work x p o o p
+      → WroteContents arena work x v p o o p
   contents-empty {p} {o} h₀ h₁ h₂ h₈ h₃ h₇ h₄ h₅ h₆ = as-node (wrote-none p o)
       (λ q ns ar lt f.
-      contents-none (numberOf work) (nodeAt ns x)
+      contents-none (numberOf work) v (nodeAt ns x)
       (λ e. h₀ (sym f ∙ e)) (λ e. h₁ (sym f ∙ e)) (λ e. h₂ (sym f ∙ e)) (λ e. h₈ (sym f ∙ e)) (λ e. h₃ (sym f ∙ e))
       (λ e. h₇ (sym f ∙ e)) (λ e. h₄ (sym f ∙ e)) (λ e. h₅ (sym f ∙ e)) (λ e. h₆ (sym f ∙ e)))

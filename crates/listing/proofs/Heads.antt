@@ -1,15 +1,17 @@
 -- Lines that are no nodes: fields after a keyword, each after a tab. Assumes nothing.
-use mathlib.Core.Path.{_≡_, ap, ap₂, _∙_}
+use mathlib.Core.Path.{_≡_, sym, ap, ap₂, _∙_}
 use Prim.Native.Nat.{ℕ}
 use mathlib.Core.List.{List, [], _∷_, _++_, append-nil, append-assoc}
 use Rattle.rules.specs.Plain.{ascii, flag}
 use Rattle.rules.specs.Text.{tab, parted, decimal, fieldText, aSign, rowTexts, lineText}
 use Rattle.rules.specs.Canonicalizer.{refusedWith}
-use Rattle.rules.specs.Listing.{answersText, answerText}
+use Rattle.rules.specs.Listing.{numberedText, answersText, answerText}
+use Rattle.rules.specs.declared.Form.{Form}
+use Rattle.rules.specs.declared.Form.the-variants.{Plain, Numbered}
 use Rattle.lang_ty.specs.declared.arena.Shown.{Shown}
 use Rattle.listing.specs.Writes.{Wrote}
 use Rattle.listing.specs.Printed.{tabbed, countTexts, headLine}
-use Rattle.listing.proofs.Texts.{wrote-more, wrote-as}
+use Rattle.listing.proofs.Texts.{wrote-none, wrote-more, wrote-as}
 
 parted-tabbed : (w : List ℕ) (fs : List (List ℕ)) → w ++ tabbed fs ≡ parted tab (w ∷ fs)
 parted-tabbed w [] = append-nil w
@@ -19,11 +21,18 @@ parted-tabbed w (f ∷ fs) = ap (λ (l : List ℕ). w ++ (tab ∷ l)) (parted-ta
 pub line-tabbed : (w : List ℕ) (fs : List (List ℕ)) → w ++ tabbed fs ++ (10 ∷ []) ≡ lineText (w ∷ fs)
 line-tabbed w fs = ap (λ (l : List ℕ). l ++ (10 ∷ [])) (parted-tabbed w fs)
 
-module _ {p q₁ q₂ r : ℕ} {o o₁ o₂ o₃ : List ℕ} where
-  pub answers-is : (n : ℕ) → Wrote (ascii "answers") p o o₁ q₁ → Wrote (tab ∷ decimal n) q₁ o₁ o₂ q₂ → Wrote (10 ∷ []) q₂ o₂ o₃ r
-      → Wrote (answersText n) p o o₃ r
+-- the line `numbered`, or none
+pub numbered-none : {form : Form} {p : ℕ} {o : List ℕ} → form ≡ Plain → Wrote (numberedText form) p o o p
+numbered-none {p = p} {o} e = wrote-as (wrote-none p o) (ap numberedText (sym e))
+
+pub numbered-line : {form : Form} {p r : ℕ} {o o′ : List ℕ} → form ≡ Numbered → Wrote (ascii "numbered\n") p o o′ r → Wrote (numberedText form) p o o′ r
+numbered-line e w = wrote-as w (ap numberedText (sym e))
+
+module _ {p q₁ q₂ q₃ r : ℕ} {o o₁ o₂ o₃ o₄ : List ℕ} where
+  pub answers-is : (form : Form) (n : ℕ) → Wrote (ascii "answers") p o o₁ q₁ → Wrote (tab ∷ decimal n) q₁ o₁ o₂ q₂ → Wrote (10 ∷ []) q₂ o₂ o₃ q₃
+      → Wrote (numberedText form) q₃ o₃ o₄ r → Wrote (answersText form n) p o o₄ r
   unfolding rowTexts fieldText
-  answers-is n a b c = wrote-more (wrote-more a b) c
+  answers-is form n a b c d = wrote-more (wrote-more (wrote-more a b) c) d
 
 module _ {p q₁ q₂ q₃ r : ℕ} {o o₁ o₂ o₃ o₄ : List ℕ} where
   pub refused-call-is : (n l : ℕ) → Wrote (ascii "refused") p o o₁ q₁ → Wrote (tab ∷ decimal n) q₁ o₁ o₂ q₂ → Wrote (tab ∷ decimal l) q₂ o₂ o₃ q₃

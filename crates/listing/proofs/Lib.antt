@@ -1,5 +1,4 @@
 pub mod Texts
-pub mod Positions
 pub mod Walking
 pub mod Numbering
 pub mod Listings

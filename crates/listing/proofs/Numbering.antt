@@ -27,7 +27,7 @@ use Rattle.lang_ty.specs.declared.arena.Pass.{Pass}
 use Rattle.lang_ty.specs.Nodes.{Arena}
 use Rattle.lang_ty.specs.Orders.{Children, ChildAt}
 use Rattle.listing.specs.Walks.{orderAt, numberOf, Numbered, reached, Visits, Walks}
-use Rattle.listing.proofs.Positions.{position-below, position-is}
+use Rattle.laws.proofs.Positions.{position-below, position-is}
 use Rattle.listing.proofs.Walking.{Known, reached-known, kids-news, visit-seen, visit-new}
 use Rattle.cells.specs.Placed.{Under}
 use Rattle.cells.proofs.Choices.{true-false}

@@ -14,6 +14,7 @@ use lang_ty::arena::OutputTy;
 use lang_ty::arena::Shown;
 use lang_ty::attrset;
 use lang_ty::disjoint::set_place;
+use rules::Form;
 use text::kinds::HEADS;
 use text::kinds::NODES;
 ghost use mathlib.Core.Path.{_≡_};
@@ -21,18 +22,29 @@ ghost use mathlib.Core.List.{[], _∷_};
 ghost use Rattle.rules.specs.Plain.{ascii, flag};
 ghost use Rattle.rules.specs.Text.{tab, dash, decimal, lineText};
 ghost use Rattle.rules.specs.Canonicalizer.{refusedWith};
-ghost use Rattle.rules.specs.Listing.{answersText, answerText};
+ghost use Rattle.rules.specs.Listing.{numberedText, answersText, answerText};
 ghost use Rattle.listing.specs.Writes.{Wrote};
 ghost use Rattle.listing.specs.Printed.{tabbed, countTexts, headLine, partedBy, numbered, WroteList, WroteFields, WroteSet, WroteContents};
-ghost use Rattle.listing.specs.Printed.{WroteNode, WroteNodes, WroteRoot};
+ghost use Rattle.listing.specs.Printed.{ShowsVariable, CountsVariable, WroteNode, WroteNodes, WroteRoot};
 
-// `answers`, root count.
-pub fn answers(out: &mut [u8], at: u32, roots: u32) -> u32
-    ensures { λ r. ⌜ Wrote (answersText roots) at (now (out .entry)) (now (out .exit)) r ⌝ }
+// `numbered`, on a line of its own, if the variables are.
+fn numbered(out: &mut [u8], at: u32, form: Form) -> u32
+    ensures { λ r. ⌜ Wrote (numberedText form) at (now (out .entry)) (now (out .exit)) r ⌝ }
+{
+    match form {
+        Form::Plain => at,
+        Form::Numbered => word(out, at, b"numbered\n"),
+    }
+}
+
+// `answers`, root count; then `numbered`, if the variables are.
+pub fn answers(out: &mut [u8], at: u32, form: Form, roots: u32) -> u32
+    ensures { λ r. ⌜ Wrote (answersText form roots) at (now (out .entry)) (now (out .exit)) r ⌝ }
 {
     let p = keyword(out, at, &HEADS, 0);
     let p = number_field(out, p, roots);
-    byte(out, p, 10)
+    let p = byte(out, p, 10);
+    numbered(out, p, form)
 }
 
 // `refused`, number, line.
@@ -174,15 +186,15 @@ fn node_field(out: &mut [u8], work: &[u32], at: u32, y: u32) -> u32
     number_field(out, at, walk::number(work, y))
 }
 
-// What stands after the keyword of node x.
-fn contents(out: &mut [u8], arena: &[u32], work: &[u32], at: u32, x: u32) -> u32
-    ensures { λ r. ⌜ WroteContents (now (arena .entry)) (now (work .entry)) x at (now (out .entry)) (now (out .exit)) r ⌝ }
+// What stands after the keyword of node x, with v for its variable, if it is one.
+fn contents(out: &mut [u8], arena: &[u32], work: &[u32], at: u32, x: u32, v: u32) -> u32
+    ensures { λ r. ⌜ WroteContents (now (arena .entry)) (now (work .entry)) x v at (now (out .entry)) (now (out .exit)) r ⌝ }
 {
     let k = arena::kind(arena, x);
     let a = arena::word(arena, x, 1);
     let b = arena::word(arena, x, 2);
     if k == OutputTy::TY_VAR {
-        return number_field(out, at, a);
+        return number_field(out, at, v);
     }
     if k == OutputTy::PRIMITIVE {
         return number_field(out, at, a);
@@ -213,25 +225,57 @@ fn contents(out: &mut [u8], arena: &[u32], work: &[u32], at: u32, x: u32) -> u32
     at
 }
 
-// The line of node k of the listing: number, kind, contents.
-fn node_line(out: &mut [u8], arena: &[u32], work: &[u32], at: u32, k: u32) -> u32
-    ensures { λ r. ⌜ WroteNode (now (arena .entry)) (now (work .entry)) k at (now (out .entry)) (now (out .exit)) r ⌝ }
+// What node x shows as its variable, if it is one: its own number, or how many variables stand before it. Equal nodes are one, so that each
+// `tyvar` line is another variable's.
+fn shown_variable(arena: &[u32], form: Form, x: u32, before: u32) -> u32
+    ensures { λ r. ⌜ ShowsVariable (now (arena .entry)) form x before r ⌝ }
+{
+    match form {
+        Form::Plain => arena::word(arena, x, 1),
+        Form::Numbered => before,
+    }
+}
+
+// How many variables stand before the node after node k, if so many stand before node k.
+fn variables_after(arena: &[u32], work: &[u32], k: u32, before: u32) -> u32
+    ensures { λ r. ⌜ CountsVariable (now (arena .entry)) (now (work .entry)) k before r ⌝ }
+{
+    if arena::kind(arena, walk::node(work, k)) == OutputTy::TY_VAR {
+        return add(before, 1);
+    }
+    before
+}
+
+// The line of node k of the listing, before which so many variables stand: number, kind, contents.
+fn node_line(
+    out: &mut [u8],
+    arena: &[u32],
+    work: &[u32],
+    at: u32,
+    form: Form,
+    k: u32,
+    before: u32,
+) -> u32
+    ensures { λ r. ⌜ WroteNode (now (arena .entry)) (now (work .entry)) form k before at (now (out .entry)) (now (out .exit)) r ⌝ }
 {
     let x = walk::node(work, k);
     let p = decimal(out, at, k);
     let p = byte(out, p, 9);
     let p = keyword(out, p, &NODES, arena::kind(arena, x));
-    let p = contents(out, arena, work, p, x);
+    let v = shown_variable(arena, form, x, before);
+    let p = contents(out, arena, work, p, x, v);
     byte(out, p, 10)
 }
 
-fn node_lines(out: &mut [u8], arena: &[u32], work: &[u32], at: u32, n: u32) -> u32
-    ensures { λ r. ⌜ WroteNodes (now (arena .entry)) (now (work .entry)) n at (now (out .entry)) (now (out .exit)) r ⌝ }
+fn node_lines(out: &mut [u8], arena: &[u32], work: &[u32], at: u32, form: Form, n: u32) -> u32
+    ensures { λ r. ⌜ WroteNodes (now (arena .entry)) (now (work .entry)) form n at (now (out .entry)) (now (out .exit)) r ⌝ }
 {
     let mut p = at;
+    let mut vars = 0;
     let mut k = 0;
     while k < n {
-        p = node_line(out, arena, work, p, k);
+        p = node_line(out, arena, work, p, form, k, vars);
+        vars = variables_after(arena, work, k, vars);
         k += 1;
     }
     p
@@ -243,13 +287,14 @@ pub fn root_lines(
     arena: &[u32],
     work: &mut [u32],
     at: u32,
+    form: Form,
     id: u32,
     sign: u32,
     s: Shown,
 ) -> u32
-    ensures { λ r. ⌜ WroteRoot (now (arena .entry)) (now (work .entry)) id sign s at (now (out .entry)) (now (out .exit)) r ⌝ }
+    ensures { λ r. ⌜ WroteRoot (now (arena .entry)) (now (work .entry)) form id sign s at (now (out .entry)) (now (out .exit)) r ⌝ }
 {
     let n = walk::walk(arena, work, s.node);
     let p = root_line(out, at, id, sign, s, n);
-    node_lines(out, arena, work, p, n)
+    node_lines(out, arena, work, p, form, n)
 }

@@ -7,26 +7,30 @@ use native.Mathlib.Omega.{arith}
 use native.Mathlib.Nat.{eq-or-lt-of-le, not-suc-le-zero}
 use native.Mathlib.Numerals.{add-one}
 use mathlib.Core.List.{List, [], _∷_, _++_, append-nil, append-assoc}
-use lib.ListN.{length, getD, set, drop, length-set, drop-of-length-le}
+use lib.ListN.{length, getD, set, take, drop, length-set, drop-of-length-le}
 use lib.Seq.{getD-set-same, getD-set-other, drop-cons}
 use lib.Dec.{eqb}
 use borrow.Author.Tests.{eq-eqb, ne-eqb, lt-ltb, le-ltb, not-true, not-false}
-use Rattle.cells.specs.Part.{if, cell, run}
+use Rattle.cells.specs.Part.{if, cell, run, eqList}
 use Rattle.cells.proofs.Parts.{run-snoc, run-ext}
 use Rattle.layout.specs.Layout.{lineLength}
 use Rattle.rules.specs.Ceilings.{mostText}
-use Rattle.rules.specs.Plain.{both}
+use Rattle.rules.specs.Plain.{ascii, both}
 use Rattle.rules.specs.Text.{tab, lineFeed, cut, pieces, number, byWord, rowOf}
 use Rattle.rules.specs.Table.{Root, Result, accepted, refused, then}
 use Rattle.rules.specs.Types.{nodeKinds}
+use Rattle.rules.specs.declared.Form.{Form}
+use Rattle.rules.specs.declared.Form.the-variants.{Plain, Numbered}
+use Rattle.rules.specs.Listing.{takeNumbered}
 use Rattle.rules.specs.Listing.{headKinds, isNumber, rowFits, nodeLineFits, nodeInForm, Taking, nextLine, takeLine, takeNode, takeNodes, nodesAfter, takeAfter}
 use Rattle.rules.specs.Listing.{takeRoot, atEnd, takeRoots, isAnswers, oldListing}
+use Rattle.laws.proofs.Storing.{eqList-told}
 use Rattle.text.specs.declared.Num.{Num}
 use Rattle.text.specs.declared.Num.the-variants.{No, Is}
 use Rattle.text.specs.declared.Got.{Got}
 use Rattle.text.specs.declared.Got.the-variants.{Bad, To}
 use Rattle.text.specs.Reads.{span, spanAt, left, numOf, gotWords, Seek, Number, FieldRoom, Row}
-use Rattle.text.proofs.Spans.{span-none, span-next, span-snoc, span-append, span-whole}
+use Rattle.text.proofs.Spans.{span-none, span-next, span-snoc, span-append, span-whole, part-taken}
 use Rattle.text.proofs.Leaves.{cut-some}
 use Rattle.text.proofs.Shaping.{pieces-here}
 use Rattle.table.specs.Rows.{At}
@@ -34,7 +38,7 @@ use Rattle.old_listing.specs.declared.Old.{Old}
 use Rattle.old_listing.specs.declared.Old.the-variants.{InForm, Refused}
 use Rattle.old_listing.specs.declared.Reached.{Reached}
 use Rattle.old_listing.specs.declared.Reached.the-variants.{At as AtV, Fault}
-use Rattle.old_listing.specs.Olds.{asked, row, NodeFits, NodeLine, Ready, takingAt, nextOf, Goes, Nodes, Count, After, TakesRoot, RootsAt, RootWord, Roots, IsAnswers, Read}
+use Rattle.old_listing.specs.Olds.{asked, row, NodeFits, NodeLine, Ready, takingAt, nextOf, Goes, Nodes, Count, After, TakesRoot, RootsAt, RootWord, Roots, IsAnswers, IsNumbered, TakesHeader, Read}
 use mathlib.Core.Option.{Option, none, some}
 
 -- a line's row, or none
@@ -299,24 +303,24 @@ joined s spans at i m = then m (λ (ts : List (List ℕ)). accepted (run (spanAt
 abbrev rootsFrom : List ℕ → ℕ → List Root → List ℕ → ℕ → ℕ → ℕ → Result (List (List ℕ))
 rootsFrom s names rs spans at line i = joined s spans at i (takeRoots names (drop i rs) (takingAt s at at line))
 
-pub record Rooting (s : List ℕ) (from names : ℕ) (table : List ℕ) (first n : ℕ) (spans₀ spans : List ℕ) (at line i : ℕ) : Type 0 where
+pub record Rooting (s : List ℕ) (from start names : ℕ) (table : List ℕ) (first n : ℕ) (spans₀ spans : List ℕ) (at line i : ℕ) : Type 0 where
   pub few : i ≤ n
   pub high : at ≤ length s
   pub early : line ≤ at + 1
   pub kept : length spans ≡ length spans₀
   pub lies : n < length spans₀ → (k : ℕ) → k < i → cell spans k ≤ length s
   pub others : (k : ℕ) → n < k → cell spans k ≡ cell spans₀ k
-  pub is : (rs : List Root) → RootsAt rs table first n → n < length spans₀ → rootsFrom s names rs spans at line i ≡ takeRoots names rs (takingAt s 0 from 2)
+  pub is : (rs : List Root) → RootsAt rs table first n → n < length spans₀ → rootsFrom s names rs spans at line i ≡ takeRoots names rs (takingAt s 0 from start)
 
-pub rooting-start : {s w table spans : List ℕ} {from names first n : ℕ} → Ready s from 2 w → Rooting s from names table first n spans spans from 2 0
-rooting-start {s} {w} {table} {spans} {from} {names} h = record {
+pub rooting-start : {s w table spans : List ℕ} {from start names first n : ℕ} → Ready s from start w → Rooting s from start names table first n spans spans from start 0
+rooting-start {s} {w} {table} {spans} {from} {start} {names} h = record {
   few = omega arith;
   high = h .within;
   early = h .early;
   kept = refl;
   lies = λ l k lt. absurd (not-suc-le-zero lt);
   others = λ k lt. refl;
-  is = λ rs g l. then-same (takeRoots names rs (takingAt s from from 2)) ∙ roots-blank s names from 0 from 2 rs;
+  is = λ rs g l. then-same (takeRoots names rs (takingAt s from from start)) ∙ roots-blank s names from 0 from start rs;
 }
 
 -- one more place that lies within s, and others untouched
@@ -364,27 +368,27 @@ step-so s names at line i spans rs r l e =
     ∙ ap (λ (j : ℕ). joined s spans at i (takeRoots names (getD rs i (asked 0 0) ∷ drop j rs) (takingAt s at at line))) (add-one i)
     ∙ ap (λ (l : List Root). joined s spans at i (takeRoots names l (takingAt s at at line))) (sym (drop-cons rs i (asked 0 0) l))
 
-module _ {s table spans₀ spans spans₁ : List ℕ} {from names first n at line i id sign : ℕ} {r : Reached} (inv : Rooting s from names table first n spans₀ spans at line i)
+module _ {s table spans₀ spans spans₁ : List ℕ} {from start names first n at line i id sign : ℕ} {r : Reached} (inv : Rooting s from start names table first n spans₀ spans at line i)
     (lt : i < n) (st : spans₁ ≡ set spans i at) (a : RootWord table first i 1 id) (b : RootWord table first i 2 sign) (h : TakesRoot s at line names id sign r) where
   root-here : (rs : List Root) → RootsAt rs table first n → nextOf s at r ≡ takeRoot names (getD rs i (asked 0 0)) (takingAt s at at line)
   root-here rs g =
       h .is ∙ ap (λ (root : Root). takeRoot names root (takingAt s at at line)) (ap₂ {C = Root} asked (a .is) (b .is) ∙ g .is i lt)
 
   step-here : (rs : List Root) → RootsAt rs table first n → n < length spans₀ → (z : Reached) → r ≡ z
-      → joined s spans at i (withRest names (drop (i + 1) rs) (nextOf s at z)) ≡ takeRoots names rs (takingAt s 0 from 2)
+      → joined s spans at i (withRest names (drop (i + 1) rs) (nextOf s at z)) ≡ takeRoots names rs (takingAt s 0 from start)
   step-here rs g l z e =
       ap (λ (y : Reached). joined s spans at i (withRest names (drop (i + 1) rs) (nextOf s at y))) (sym e)
       ∙ step-so s names at line i spans rs r (let c = g .count in omega arith) (root-here rs g)
       ∙ inv .is rs g l
 
-  pub rooting-fault : {k : ℕ} → r ≡ Fault k → Roots s from names table first n spans₀ spans₁ (Refused k)
+  pub rooting-fault : {k : ℕ} → r ≡ Fault k → Roots s from start names table first n spans₀ spans₁ (Refused k)
   rooting-fault {k} e = record {
     is = λ rs g l. step-here rs g l (Fault k) e;
     lies = λ l. tt;
     kept = λ j m. ap (λ (w : List ℕ). cell w j) st ∙ set-others spans₀ spans i at n (omega arith) (inv .others) j m;
   }
 
-  pub rooting-more : {q k : ℕ} → r ≡ AtV q k → Rooting s from names table first n spans₀ spans₁ q k (i + 1)
+  pub rooting-more : {q k : ℕ} → r ≡ AtV q k → Rooting s from start names table first n spans₀ spans₁ q k (i + 1)
   rooting-more {q} {k} e =
       let b : Goes s at (AtV q k) = subst (Goes s at) e (h .goes) in
       record {
@@ -404,9 +408,9 @@ module _ {s table spans₀ spans spans₁ : List ℕ} {from names first n at lin
       }
 
 -- after the last root
-module _ {s table spans₀ spans : List ℕ} {from names first n at line i : ℕ} (inv : Rooting s from names table first n spans₀ spans at line i) (h : n ≤ i) where
+module _ {s table spans₀ spans : List ℕ} {from start names first n at line i : ℕ} (inv : Rooting s from start names table first n spans₀ spans at line i) (h : n ≤ i) where
   last-so : (rs : List Root) (o : Result (List (List ℕ))) → RootsAt rs table first n → n < length spans₀
-      → atEnd line (pieces lineFeed (span s at (length s))) ≡ o → joined s spans at n o ≡ takeRoots names rs (takingAt s 0 from 2)
+      → atEnd line (pieces lineFeed (span s at (length s))) ≡ o → joined s spans at n o ≡ takeRoots names rs (takingAt s 0 from start)
   last-so rs o g l e =
       ap₂ {C = Result (List (List ℕ))} (λ (m : Result (List (List ℕ))) (j : ℕ). joined s spans at j m)
       (sym e ∙ ap (λ (q : List Root). takeRoots names q (takingAt s at at line)) (sym (drop-of-length-le rs {i = i} (let c = g .count in omega arith))))
@@ -417,14 +421,14 @@ module _ {s table spans₀ spans : List ℕ} {from names first n at line i : ℕ
     untouched : (k : ℕ) → n < k → cell spans₁ k ≡ cell spans₀ k
     untouched k lt = ap (λ (w : List ℕ). cell w k) st ∙ set-others spans₀ spans n at n (omega arith) (inv .others) k lt
 
-    pub rooting-surplus : at < length s → Roots s from names table first n spans₀ spans₁ (Refused line)
+    pub rooting-surplus : at < length s → Roots s from start names table first n spans₀ spans₁ (Refused line)
     rooting-surplus l = record {
       is = λ rs g m. last-so rs (refused 11 line) g m (end-surplus s at line l);
       lies = λ m. tt;
       kept = untouched;
     }
 
-    pub rooting-done : length s ≤ at → Roots s from names table first n spans₀ spans₁ InForm
+    pub rooting-done : length s ≤ at → Roots s from start names table first n spans₀ spans₁ InForm
     rooting-done l = record {
       is = λ rs g m.
           ap (λ (q : List (List ℕ)). accepted q) (ap (λ (w : List ℕ). run (spanAt s w) 0 n) st ∙ sym (append-nil (run (spanAt s (set spans n at)) 0 n)))
@@ -434,64 +438,143 @@ module _ {s table spans₀ spans : List ℕ} {from names first n at line i : ℕ
       kept = untouched;
     }
 
-pub rooting-ready : {s w w′ table spans₀ spans : List ℕ} {from names first n at line i : ℕ} → Ready s from 2 w → length w′ ≡ length w
-    → Rooting s from names table first n spans₀ spans at line i → Ready s at line w′
+pub rooting-ready : {s w w′ table spans₀ spans : List ℕ} {from start names first n at line i : ℕ} → Ready s from start w → length w′ ≡ length w
+    → Rooting s from start names table first n spans₀ spans at line i → Ready s at line w′
 rooting-ready g l inv = record { within = inv .high; short = g .short; early = inv .early; room = omega (arith, g .room) }
 
+pub numbered-same : {s : List ℕ} {from to : ℕ} {b : Bool} → from ≤ to → to ≤ length s
+    → (b ≡ true → take (to - from) (drop from s) ≡ ascii "numbered") × (take (to - from) (drop from s) ≡ ascii "numbered" → b ≡ true) → IsNumbered s from to b
+numbered-same {s} {from} {to} {b} h l f = record {
+  is = sym (eqList-told b _ (take (to - from) (drop from s)) (ascii "numbered") f refl)
+      ∙ ap (λ (w : List ℕ). eqList w (ascii "numbered")) (part-taken s from (to - from) (omega arith));
+}
+
+abbrev numberedLine : List ℕ → ℕ → List ℕ → List (List ℕ) → Result Taking
+numberedLine s from l ls = if (eqList l (ascii "numbered")) (λ _. accepted (takeLine (takingAt s 0 from 2) l ls)) (λ _. refused 11 2)
+
+-- the line `numbered`, or none
+module _ {form : Form} {s : List ℕ} {from : ℕ} (one : 1 ≤ from) (within : from ≤ length s) where
+  pub header-none : form ≡ Plain → TakesHeader form s from (AtV from 2)
+  header-none e = record { is = ap (λ (f : Form). takeNumbered f (takingAt s 0 from 2)) (sym e); goes = (omega arith, within, omega arith) }
+
+  module _ {e : ℕ} (f : form ≡ Numbered) (y : Seek s from (length s) 10 e) where
+    pub header-last : e ≡ length s → TakesHeader form s from (Fault 2)
+    header-last h = record {
+      is = sym (next-last 2 (numberedLine s from) s from (length s) e y h) ∙ ap (λ (f : Form). takeNumbered f (takingAt s 0 from 2)) (sym f);
+      goes = tt;
+    }
+
+    module _ (h : (e ≡ length s → ⊥)) {b : Bool} (a : IsNumbered s from e b) where
+      header-so : (t : Bool) → b ≡ t → if t (λ _. accepted (takingAt s 0 (e + 1) 3)) (λ _. refused 11 2) ≡ takeNumbered form (takingAt s 0 from 2)
+      header-so t q =
+          ap₂ {C = Result Taking} (λ (u : Bool) (d : Taking). if u (λ _. accepted d) (λ _. refused 11 2)) (sym q ∙ a .is)
+          (sym (taken-so s 0 from e 2 (omega arith) y (omega (arith, y .high))))
+          ∙ sym (next-here 2 (numberedLine s from) s from (length s) e y (omega (arith, y .high)))
+          ∙ ap (λ (f : Form). takeNumbered f (takingAt s 0 from 2)) (sym f)
+
+      pub header-other : not b ≡ true → TakesHeader form s from (Fault 2)
+      header-other q = record { is = header-so false (not-true b q); goes = tt }
+
+      pub header-line : not b ≡ false → TakesHeader form s from (AtV (e + 1) 3)
+      header-line q = record { is = header-so true (not-false b q); goes = (omega (arith, y .low), omega (arith, y .high), omega (arith, y .low)) }
+
 -- the whole listing
-abbrev firstLine : ℕ → List Root → List ℕ → List (List ℕ) → Result (List (List ℕ))
-firstLine names rs l ls =
-    if (isAnswers (length rs) (rowOf headKinds l)) (λ _. takeRoots names rs (record { text = []; line = 2; rest = ls })) (λ _. refused 11 1)
+abbrev firstLine : Form → ℕ → List Root → List ℕ → List (List ℕ) → Result (List (List ℕ))
+firstLine form names rs l ls =
+    if (isAnswers (length rs) (rowOf headKinds l))
+    (λ _. then (takeNumbered form (record { text = []; line = 2; rest = ls })) (λ (c : Taking). takeRoots names rs c)) (λ _. refused 11 1)
 
-old-so : (names : ℕ) (rs : List Root) (s : List ℕ) → length s ≤ mostText → nextLine 1 (pieces lineFeed (span s 0 (length s))) (firstLine names rs) ≡ oldListing names rs s
+old-so : (form : Form) (names : ℕ) (rs : List Root) (s : List ℕ) → length s ≤ mostText
+    → nextLine 1 (pieces lineFeed (span s 0 (length s))) (firstLine form names rs) ≡ oldListing form names rs s
 unfolding oldListing
-old-so names rs s h =
-    ap (λ (l : List ℕ). nextLine 1 (pieces lineFeed l) (firstLine names rs)) (span-whole s)
-    ∙ ap (λ (b : Bool). if b (λ _. refused 11 0) (λ _. nextLine 1 (pieces lineFeed s) (firstLine names rs))) (sym (le-ltb mostText (length s) h))
+old-so form names rs s h =
+    ap (λ (l : List ℕ). nextLine 1 (pieces lineFeed l) (firstLine form names rs)) (span-whole s)
+    ∙ ap (λ (b : Bool). if b (λ _. refused 11 0) (λ _. nextLine 1 (pieces lineFeed s) (firstLine form names rs))) (sym (le-ltb mostText (length s) h))
 
-long-so : (names : ℕ) (rs : List Root) (s : List ℕ) → mostText < length s → refused 11 0 ≡ oldListing names rs s
+long-so : (form : Form) (names : ℕ) (rs : List Root) (s : List ℕ) → mostText < length s → refused 11 0 ≡ oldListing form names rs s
 unfolding oldListing
-long-so names rs s h = ap (λ (b : Bool). if b (λ _. refused 11 0) (λ _. nextLine 1 (pieces lineFeed s) (firstLine names rs))) (sym (lt-ltb mostText (length s) h))
+long-so form names rs s h =
+    ap (λ (b : Bool). if b (λ _. refused 11 0) (λ _. nextLine 1 (pieces lineFeed s) (firstLine form names rs))) (sym (lt-ltb mostText (length s) h))
 
-module _ {s table spans w : List ℕ} {names first n : ℕ} where
-  pub old-long : mostText < length s → Read s names table first n spans w spans (Refused 0)
-  old-long h = record { is = λ rs g l m. long-so names rs s h; lies = λ l. tt; kept = λ k lt. refl }
+module _ {form : Form} {s table spans w : List ℕ} {names first n : ℕ} where
+  pub old-long : mostText < length s → Read form s names table first n spans w spans (Refused 0)
+  old-long h = record { is = λ rs g l m. long-so form names rs s h; lies = λ l. tt; kept = λ k lt. refl }
 
-  pub old-poor : length w < lineLength → Read s names table first n spans w spans (Refused 0)
+  pub old-poor : length w < lineLength → Read form s names table first n spans w spans (Refused 0)
   old-poor h = record { is = λ rs g l m. absurd (let z : ⊥ = omega arith in z); lies = λ l. tt; kept = λ k lt. refl }
 
-first-so : (s : List ℕ) (names n e : ℕ) (rs : List Root) (b t : Bool) → length s ≤ mostText → Seek s 0 (length s) 10 e → e < length s → IsAnswers s 0 e n b
-    → b ≡ t → length rs ≡ n → if t (λ _. takeRoots names rs (takingAt s 0 (e + 1) 2)) (λ _. refused 11 1) ≡ oldListing names rs s
-first-so s names n e rs b t h y l a f c =
+-- what was taken before the roots makes no difference to them
+roots-text : (names line : ℕ) (x : List ℕ) (ls : List (List ℕ)) (rs : List Root)
+    → takeRoots names rs (record { text = x; line = line; rest = ls }) ≡ takeRoots names rs (record { text = []; line = line; rest = ls })
+roots-text names line x ls [] = refl
+roots-text names line x ls (r ∷ rs) = refl
+
+after-text : (names : ℕ) (x : List ℕ) (rs : List Root) (l : List ℕ) (ls : List (List ℕ)) (line : ℕ) (b : Bool)
+    → then (if b (λ _. accepted (record { text = x ++ l ++ (lineFeed ∷ []); line = suc line; rest = ls })) (λ _. refused 11 line)) (λ (c : Taking). takeRoots names rs c)
+    ≡ then (if b (λ _. accepted (record { text = l ++ (lineFeed ∷ []); line = suc line; rest = ls })) (λ _. refused 11 line)) (λ (c : Taking). takeRoots names rs c)
+after-text names x rs l ls line true = roots-text names (suc line) (x ++ l ++ (lineFeed ∷ [])) ls rs ∙ sym (roots-text names (suc line) (l ++ (lineFeed ∷ [])) ls rs)
+after-text names x rs l ls line false = refl
+
+header-text : (form : Form) (names line : ℕ) (x : List ℕ) (ls : List (List ℕ)) (rs : List Root)
+    → then (takeNumbered form (record { text = x; line = line; rest = ls })) (λ (c : Taking). takeRoots names rs c)
+    ≡ then (takeNumbered form (record { text = []; line = line; rest = ls })) (λ (c : Taking). takeRoots names rs c)
+header-text Plain names line x ls rs = roots-text names line x ls rs
+header-text Numbered names line x [] rs = refl
+header-text Numbered names line x (l ∷ []) rs = refl
+header-text Numbered names line x (l ∷ m ∷ ls) rs = after-text names x rs l (m ∷ ls) line (eqList l (ascii "numbered"))
+
+-- what comes after the line `answers`
+abbrev behindFirst : Form → ℕ → List Root → List ℕ → ℕ → Result (List (List ℕ))
+behindFirst form names rs s e = then (takeNumbered form (takingAt s 0 (e + 1) 2)) (λ (c : Taking). takeRoots names rs c)
+
+first-so : (form : Form) (s : List ℕ) (names n e : ℕ) (rs : List Root) (b t : Bool) → length s ≤ mostText → Seek s 0 (length s) 10 e → e < length s
+    → IsAnswers s 0 e n b → b ≡ t → length rs ≡ n → if t (λ _. behindFirst form names rs s e) (λ _. refused 11 1) ≡ oldListing form names rs s
+first-so form s names n e rs b t h y l a f c =
     ap₂ {C = Result (List (List ℕ))} (λ (u : Bool) (o : Result (List (List ℕ))). if u (λ _. o) (λ _. refused 11 1))
     (sym f ∙ a .is ∙ ap (λ (m : ℕ). isAnswers m (rowOf headKinds (span s 0 e))) (sym c))
-    (blank-so rs)
-    ∙ sym (next-here 1 (firstLine names rs) s 0 (length s) e y l)
-    ∙ old-so names rs s h
-  where
-    blank-so : (rs : List Root) → takeRoots names rs (takingAt s 0 (e + 1) 2) ≡ takeRoots names rs (record { text = []; line = 2; rest = pieces lineFeed (span s (e + 1) (length s)) })
-    blank-so [] = refl
-    blank-so (r ∷ rs) = refl
+    (header-text form names 2 (span s 0 (e + 1)) (pieces lineFeed (span s (e + 1) (length s))) rs)
+    ∙ sym (next-here 1 (firstLine form names rs) s 0 (length s) e y l)
+    ∙ old-so form names rs s h
 
-module _ {s table spans w : List ℕ} {names first n e : ℕ} (h : length s ≤ mostText) (y : Seek s 0 (length s) 10 e) where
-  pub old-none : e ≡ length s → Read s names table first n spans w spans (Refused 1)
+-- what the header comes to, and the roots after it
+header-here : (form : Form) (s : List ℕ) (names n e : ℕ) (rs : List Root) (b : Bool) (r z : Reached) → length s ≤ mostText → Seek s 0 (length s) 10 e → e < length s
+    → IsAnswers s 0 e n b → not b ≡ false → length rs ≡ n → TakesHeader form s (e + 1) r → r ≡ z
+    → then (nextOf s 0 z) (λ (c : Taking). takeRoots names rs c) ≡ oldListing form names rs s
+header-here form s names n e rs b r z h y l a f c t q =
+    ap (λ (o : Result Taking). then o (λ (c : Taking). takeRoots names rs c)) (ap (nextOf s 0) (sym q) ∙ t .is)
+    ∙ first-so form s names n e rs b true h y l a (not-false b f) c
+
+module _ {form : Form} {s table spans w : List ℕ} {names first n e : ℕ} (h : length s ≤ mostText) (y : Seek s 0 (length s) 10 e) where
+  pub old-none : e ≡ length s → Read form s names table first n spans w spans (Refused 1)
   old-none d = record {
-    is = λ rs g l m. sym (next-last 1 (firstLine names rs) s 0 (length s) e y d) ∙ old-so names rs s h;
+    is = λ rs g l m. sym (next-last 1 (firstLine form names rs) s 0 (length s) e y d) ∙ old-so form names rs s h;
     lies = λ l. tt;
     kept = λ k lt. refl;
   }
 
   module _ (d : (e ≡ length s → ⊥)) {b : Bool} (a : IsAnswers s 0 e n b) where
-    pub old-other : not b ≡ true → Read s names table first n spans w spans (Refused 1)
+    pub old-other : not b ≡ true → Read form s names table first n spans w spans (Refused 1)
     old-other f = record {
-      is = λ rs g l m. first-so s names n e rs b false h y (omega (arith, y .high)) a (not-true b f) (g .count);
+      is = λ rs g l m. first-so form s names n e rs b false h y (omega (arith, y .high)) a (not-true b f) (g .count);
       lies = λ l. tt;
       kept = λ k lt. refl;
     }
 
-    pub old-roots : {spans′ : List ℕ} {r : Old} → not b ≡ false → Roots s (e + 1) names table first n spans spans′ r → Read s names table first n spans w spans′ r
-    old-roots f q = record {
-      is = λ rs g l m. q .is rs g l ∙ first-so s names n e rs b true h y (omega (arith, y .high)) a (not-false b f) (g .count);
-      lies = q .lies;
-      kept = q .kept;
-    }
+    module _ {r : Reached} (f : not b ≡ false) (t : TakesHeader form s (e + 1) r) where
+      pub old-header : {k : ℕ} → r ≡ Fault k → Read form s names table first n spans w spans (Refused k)
+      old-header {k} q = record { is = λ rs g l m. header-here form s names n e rs b r (Fault k) h y (omega (arith, y .high)) a f (g .count) t q; lies = λ l. tt; kept = λ k lt. refl }
+
+      pub old-roots : {at k : ℕ} {spans′ : List ℕ} {o : Old} → r ≡ AtV at k → Roots s at k names table first n spans spans′ o
+          → Read form s names table first n spans w spans′ o
+      old-roots {at} {k} q v = record {
+        is = λ rs g l m. v .is rs g l ∙ header-here form s names n e rs b r (AtV at k) h y (omega (arith, y .high)) a f (g .count) t q;
+        lies = v .lies;
+        kept = v .kept;
+      }
+
+-- the roots' lines begin after it
+pub header-ready : {form : Form} {s : List ℕ} (w w′ : List ℕ) {from at k : ℕ} {r : Reached} → length s ≤ mostText → lineLength ≤ length w → length w′ ≡ length w
+    → TakesHeader form s from r → r ≡ AtV at k → Ready s at k w′
+header-ready {s = s} w w′ {from} {at} {k} short room l t q =
+    let g : Goes s from (AtV at k) = subst (Goes s from) q (t .goes) in
+    record { within = g .1; short = short; early = g .2; room = omega arith }

@@ -5,15 +5,16 @@ use Prim.Native.Nat.{ℕ, _+_, _≤_, _<_}
 use mathlib.Core.List.{List}
 use lib.ListN.{length, getD}
 use lib.Dec.{leb}
-use Rattle.cells.specs.Part.{cell, part, run}
+use Rattle.cells.specs.Part.{cell, part, run, eqList}
 use Rattle.layout.specs.Layout.{lineLength}
 use Rattle.rules.specs.Ceilings.{mostText, mostMembers}
-use Rattle.rules.specs.Plain.{both}
+use Rattle.rules.specs.Plain.{ascii, both}
 use Rattle.rules.specs.Text.{lineFeed, pieces, rowOf}
 use Rattle.rules.specs.Table.{Root, Result, accepted, refused, allBelow, attrAt}
 use Rattle.rules.specs.Types.{AttrSet}
 use Rattle.rules.specs.Listing.{headKinds, nodeOf, nodeFits, nodeInForm, Taking, takeNodes, within, forRoot, nodesAfter, takeRoot, takeRoots}
-use Rattle.rules.specs.Listing.{isAnswers, oldListing}
+use Rattle.rules.specs.Listing.{isAnswers, takeNumbered, oldListing}
+use Rattle.rules.specs.declared.Form.{Form}
 use Rattle.text.specs.declared.Num.{Num}
 use Rattle.text.specs.Reads.{span, spanAt, numOf}
 use Rattle.old_listing.specs.declared.Old.{Old}
@@ -97,17 +98,25 @@ abbrev pub Lies : Old → List ℕ → List ℕ → ℕ → Type 0
 Lies InForm s spans n = (k : ℕ) → k ≤ n → cell spans k ≤ length s
 Lies (Refused k) s spans n = Unit {0}
 
-pub record Roots (s : List ℕ) (from names : ℕ) (table : List ℕ) (first n : ℕ) (spans spans′ : List ℕ) (r : Old) : Type 0 where
-  pub is : (rs : List Root) → RootsAt rs table first n → n < length spans → oldOf r s spans′ n ≡ takeRoots names rs (takingAt s 0 from 2)
+pub record Roots (s : List ℕ) (from start names : ℕ) (table : List ℕ) (first n : ℕ) (spans spans′ : List ℕ) (r : Old) : Type 0 where
+  pub is : (rs : List Root) → RootsAt rs table first n → n < length spans → oldOf r s spans′ n ≡ takeRoots names rs (takingAt s 0 from start)
   pub lies : n < length spans → Lies r s spans′ n
   pub kept : (k : ℕ) → n < k → cell spans′ k ≡ cell spans k
 
 pub record IsAnswers (s : List ℕ) (from to n : ℕ) (r : Bool) : Type 0 where
   pub is : r ≡ isAnswers n (rowOf headKinds (span s from to))
 
+pub record IsNumbered (s : List ℕ) (from to : ℕ) (r : Bool) : Type 0 where
+  pub is : r ≡ eqList (span s from to) (ascii "numbered")
+
+-- what stands between the line `answers` and the roots
+pub record TakesHeader (form : Form) (s : List ℕ) (from : ℕ) (r : Reached) : Type 0 where
+  pub is : nextOf s 0 r ≡ takeNumbered form (takingAt s 0 from 2)
+  pub goes : Goes s from r
+
 -- an old listing read: where the spans and the words are long enough, the answer with the spans is what the rules say. What stood after the
 -- spans stands there still
-pub record Read (s : List ℕ) (names : ℕ) (table : List ℕ) (first n : ℕ) (spans w spans′ : List ℕ) (r : Old) : Type 0 where
-  pub is : (rs : List Root) → RootsAt rs table first n → n < length spans → lineLength ≤ length w → oldOf r s spans′ n ≡ oldListing names rs s
+pub record Read (form : Form) (s : List ℕ) (names : ℕ) (table : List ℕ) (first n : ℕ) (spans w spans′ : List ℕ) (r : Old) : Type 0 where
+  pub is : (rs : List Root) → RootsAt rs table first n → n < length spans → lineLength ≤ length w → oldOf r s spans′ n ≡ oldListing form names rs s
   pub lies : n < length spans → Lies r s spans′ n
   pub kept : (k : ℕ) → n < k → cell spans′ k ≡ cell spans k

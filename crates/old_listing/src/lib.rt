@@ -3,6 +3,7 @@ use cells::get;
 use cells::place;
 use lang_ty::arena::Pass;
 use layout::ArenaSlice;
+use rules::Form;
 use table::Table;
 use table::ranges;
 use table::rows;
@@ -11,10 +12,12 @@ use text::Num;
 use text::kinds;
 use text::kinds::HEADS;
 use text::kinds::NODES;
+ghost use Prim.Native.Nat.{_≤_};
+ghost use lib.ListN.{length};
 ghost use Rattle.rules.specs.Types.{nodeKinds};
 ghost use Rattle.rules.specs.Listing.{headKinds};
 ghost use Rattle.text.specs.Reads.{FieldRoom, Row};
-ghost use Rattle.old_listing.specs.Olds.{SetFits, MembersFit, NodeFits, NodeLine, Ready, Nodes, Within, ForRoot, Count, After, TakesRoot, RootWord, Roots, IsAnswers, Read};
+ghost use Rattle.old_listing.specs.Olds.{SetFits, MembersFit, NodeFits, NodeLine, Ready, Nodes, Within, ForRoot, Count, After, TakesRoot, RootWord, Roots, IsAnswers, IsNumbered, TakesHeader, Read};
 
 pub enum Old {
     InForm,
@@ -228,34 +231,35 @@ fn root_word(table: &[u32], first: u32, i: u32, k: u32) -> u32
     get(table, place(p, k))
 }
 
-// The lines of all roots, from line 2 on, and nothing after them.
+// The lines of all roots, from line k on, and nothing after them.
 fn roots_from(
     s: &[u8],
     spans: &mut [u32],
     table: &[u32],
     words: &mut [u32],
     from: usize,
+    k: u32,
     names: u32,
     first: u32,
     roots: u32,
 ) -> Old
-    requires { ⌜ Ready (now s) from 2 (now words) ⌝ }
-    ensures { λ r. ⌜ Roots (now (s .entry)) from names (now (table .entry)) first roots (now (spans .entry)) (now (spans .exit)) r ⌝ }
+    requires { ⌜ Ready (now s) from k (now words) ⌝ }
+    ensures { λ r. ⌜ Roots (now (s .entry)) from k names (now (table .entry)) first roots (now (spans .entry)) (now (spans .exit)) r ⌝ }
 {
     let mut at = from;
-    let mut line = 2;
+    let mut line = k;
     let mut i = 0;
     while i < roots {
         cells::set(spans, i, at as u32);
         let id = root_word(table, first, i, 1);
         let sign = root_word(table, first, i, 2);
         match root(s, at, line, words, names, id, sign) {
-            Reached::Fault(k) => {
-                return Old::Refused(k);
+            Reached::Fault(l) => {
+                return Old::Refused(l);
             }
-            Reached::At(q, k) => {
+            Reached::At(q, l) => {
                 at = q;
-                line = k;
+                line = l;
                 i += 1;
             }
         }
@@ -281,9 +285,39 @@ fn is_answers(s: &[u8], from: usize, to: usize, words: &mut [u32], roots: u32) -
     false
 }
 
-// Reads an old listing for the roots whose rows begin where table tells from first on: a kind, the id, the sign. In form, root i's lines are
+// Whether the line between from and to is `numbered`.
+fn is_numbered(s: &[u8], from: usize, to: usize) -> bool
+    requires { ⌜ (from ≤ to) × (to ≤ length (now s)) ⌝ }
+    ensures { λ r. ⌜ IsNumbered (now (s .entry)) from to r ⌝ }
+{
+    check::same(&s[from..to], b"numbered")
+}
+
+// After the line `answers`: line 2 of a numbered listing is `numbered`.
+fn header(s: &[u8], from: usize, form: Form) -> Reached
+    requires { ⌜ (1 ≤ from) × (from ≤ length (now s)) ⌝ }
+    ensures { λ r. ⌜ TakesHeader form (now (s .entry)) from r ⌝ }
+{
+    match form {
+        Form::Plain => Reached::At(from, 2),
+        Form::Numbered => {
+            let m = s.len();
+            let e = text::seek(s, from, m, 10);
+            if e == m {
+                return Reached::Fault(2);
+            }
+            if !is_numbered(s, from, e) {
+                return Reached::Fault(2);
+            }
+            Reached::At(e + 1, 3)
+        }
+    }
+}
+
+// Reads an old listing of this form for the roots whose rows begin where table tells from first on: a kind, the id, the sign. In form, root i's lines are
 // those from spans[i] to spans[i + 1]. The words are ArenaSlice::LINE at least, and the spans one more than the roots.
 pub fn read_old(
+    form: Form,
     text: &[u8],
     spans: &mut [u32],
     table: &[u32],
@@ -292,7 +326,7 @@ pub fn read_old(
     first: u32,
     roots: u32,
 ) -> Old
-    ensures { λ r. ⌜ Read (now (text .entry)) names (now (table .entry)) first roots (now (spans .entry)) (now (words .entry)) (now (spans .exit)) r ⌝ }
+    ensures { λ r. ⌜ Read form (now (text .entry)) names (now (table .entry)) first roots (now (spans .entry)) (now (words .entry)) (now (spans .exit)) r ⌝ }
 {
     let n = text.len();
     if Table::TEXT < n {
@@ -308,5 +342,8 @@ pub fn read_old(
     if !is_answers(text, 0, e, words, roots) {
         return Old::Refused(1);
     }
-    roots_from(text, spans, table, words, e + 1, names, first, roots)
+    match header(text, e + 1, form) {
+        Reached::Fault(k) => Old::Refused(k),
+        Reached::At(at, k) => roots_from(text, spans, table, words, at, k, names, first, roots),
+    }
 }

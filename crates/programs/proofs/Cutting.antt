@@ -14,7 +14,7 @@ use Rattle.cells.proofs.Choices.{by-test}
 use Rattle.rules.specs.Plain.{ascii, both}
 use Rattle.rules.specs.Text.{lineFeed, cut, pieces, parted}
 use Rattle.rules.specs.Calls.{Split, cutNext, splitNext}
-use Rattle.laws.proofs.Storing.{eqList-true, eqList-refl}
+use Rattle.laws.proofs.Storing.{eqList-true, eqList-told}
 use Rattle.laws.proofs.Admitting.{both-parts}
 use Rattle.laws.proofs.Rooting.{all-join}
 use Rattle.laws.proofs.Printed.{Free}
@@ -200,16 +200,10 @@ module _ {s : List ℕ} {from i : ℕ} (k : Seeking s from i) where
             ∙ ap (λ (l : List ℕ). record { front = slice from (length s) s; back = l }) (sym (drop-length s) ∙ ap (λ (j : ℕ). drop j s) (sym end));
       }
 
--- a test that tells whether two lists are equal
-as-test : (b c : Bool) (xs ys : List ℕ) → (b ≡ true → xs ≡ ys) × (xs ≡ ys → b ≡ true) → eqList xs ys ≡ c → c ≡ b
-as-test true c xs ys f e = sym e ∙ ap (λ (l : List ℕ). eqList l ys) (f .0 refl) ∙ eqList-refl ys
-as-test false true xs ys f e = sym (f .1 (eqList-true xs ys e))
-as-test false false xs ys f e = refl
-
 -- each way out of `begins`
 module _ {s other : List ℕ} {n : ℕ} where
   pub begins-same : {b : Bool} → n ≤ length s → (b ≡ true → take n s ≡ other) × (take n s ≡ other → b ≡ true) → Begins s n other b
-  begins-same {b} h f = record { is = sym (rw (le-leb n (length s) h) (as-test b (eqList (take n s) other) (take n s) other f refl)) }
+  begins-same {b} h f = record { is = sym (rw (le-leb n (length s) h) (eqList-told b (eqList (take n s) other) (take n s) other f refl)) }
 
   pub begins-short : length s < n → Begins s n other false
   begins-short h = record { is = sym (rw (lt-leb n (length s) h)) }

@@ -15,6 +15,7 @@ use Rattle.rules.specs.Ceilings.{mostText}
 use Rattle.rules.specs.Text.{lineFeed}
 use Rattle.rules.specs.Table.{Root, Table, Result, accepted, refused, then, sectionsOf, tableOf}
 use Rattle.rules.specs.Listing.{listingText, oldListing}
+use Rattle.rules.specs.declared.Form.{Form}
 use Rattle.rules.specs.Calls.{fits, canon, comparable, recheckText, recheck, Split, splitNext, printed, lent, canonProgram, recheckParts, recheckProgram}
 use Rattle.programs.specs.Parts.{nextLine}
 use Rattle.programs.proofs.Cutting.{drop-take, scan, split-scan}
@@ -24,9 +25,9 @@ long-table : (text : List ℕ) → mostText < length text → tableOf text ≡ r
 unfolding tableOf sectionsOf
 long-table text h = rw (lt-ltb mostText (length text) h)
 
-long-listing : (names : ℕ) (roots : List Root) (text : List ℕ) → mostText < length text → oldListing names roots text ≡ refused 11 0
+long-listing : (form : Form) (names : ℕ) (roots : List Root) (text : List ℕ) → mostText < length text → oldListing form names roots text ≡ refused 11 0
 unfolding oldListing
-long-listing names roots text h = rw (lt-ltb mostText (length text) h)
+long-listing form names roots text h = rw (lt-ltb mostText (length text) h)
 
 -- the first k bytes of a text, where that is too long with and without the rest
 by-length : {A : Type 0} (f : List ℕ → A) (bad : A) → ((text : List ℕ) → mostText < length text → f text ≡ bad) → (k : ℕ) → mostText < k → (text : List ℕ)
@@ -40,10 +41,10 @@ by-length {A} f bad long k h text = by-case (ltb (length text) k) refl
         long (take k text) (omega (arith, length-take-le k text le)) ∙ sym (long text (omega arith))
 
 -- canon reads one byte more than a table may have
-pub canon-enough : (input : List ℕ) → canonProgram (take 65537 input) ≡ canonProgram input
+pub canon-enough : (form : Form) (input : List ℕ) → canonProgram form (take 65537 input) ≡ canonProgram form input
 unfolding canonProgram canon
-canon-enough input =
-    ap (λ (r : Result Table). printed (then r (λ (t : Table). fits lent (listingText t))))
+canon-enough form input =
+    ap (λ (r : Result Table). printed (then r (λ (t : Table). fits lent (listingText form t))))
     (by-length tableOf (refused 2 0) long-table 65537 (omega arith) input)
 
 -- a text cut, and its first bytes cut: nothing is missing, what is after the cut is cut short, or both have a front that is as long as all that was kept
@@ -94,56 +95,56 @@ then-same (accepted a) f g h = h a
 then-same (refused k l) f g h = refl
 
 -- recheck, where a part is too long, whatever is after it
-long-old : (old new listing : List ℕ) (room : ℕ) → mostText < length old → recheck old new listing room ≡ refused 2 0
+long-old : (form : Form) (old new listing : List ℕ) (room : ℕ) → mostText < length old → recheck form old new listing room ≡ refused 2 0
 unfolding recheck
-long-old old new listing room h = rw (long-table old h)
+long-old form old new listing room h = rw (long-table old h)
 
-long-new : (old new new′ listing listing′ : List ℕ) (room : ℕ) → mostText < length new → mostText < length new′
-    → recheck old new listing room ≡ recheck old new′ listing′ room
+long-new : (form : Form) (old new new′ listing listing′ : List ℕ) (room : ℕ) → mostText < length new → mostText < length new′
+    → recheck form old new listing room ≡ recheck form old new′ listing′ room
 unfolding recheck
-long-new old new new′ listing listing′ room h i = then-same (tableOf old) _ _ (λ t. rw (long-table new h, long-table new′ i))
+long-new form old new new′ listing listing′ room h i = then-same (tableOf old) _ _ (λ t. rw (long-table new h, long-table new′ i))
 
-listing-enough : (old new listing : List ℕ) (room k : ℕ) → mostText < k → recheck old new (take k listing) room ≡ recheck old new listing room
+listing-enough : (form : Form) (old new listing : List ℕ) (room k : ℕ) → mostText < k → recheck form old new (take k listing) room ≡ recheck form old new listing room
 unfolding recheck
-listing-enough old new listing room k h =
+listing-enough form old new listing room k h =
     then-same (tableOf old) _ _ (λ t. then-same (tableOf new) _ _ (λ u.
     ap (λ (r : Result (List (List ℕ))). unless (comparable t u) (λ _. refused 10 0)
-    (λ _. then r (λ (texts : List (List ℕ)). fits room (recheckText t u texts))))
-    (by-length (oldListing (length (u .names)) (u .roots)) (refused 11 0) (long-listing (length (u .names)) (u .roots)) k h listing)))
+    (λ _. then r (λ (texts : List (List ℕ)). fits room (recheckText form t u texts))))
+    (by-length (oldListing form (length (u .names)) (u .roots)) (refused 11 0) (long-listing form (length (u .names)) (u .roots)) k h listing)))
 
 -- what stands after the old table, as recheck is given it
-abbrev behindOld : List ℕ → Split → Result (List ℕ)
-behindOld old s = recheck old (s .front) (s .back) lent
+abbrev behindOld : Form → List ℕ → Split → Result (List ℕ)
+behindOld form old s = recheck form old (s .front) (s .back) lent
 
-new-enough : (old : List ℕ) (k : ℕ) (x y : Split) → 131078 ≤ k → Alike k x y → behindOld old y ≡ behindOld old x
-new-enough old k x y h (whole e) = ap (behindOld old) e
-new-enough old k x y h (long p q) = long-new old (y .front) (x .front) (y .back) (x .back) lent (omega arith) (omega arith)
-new-enough old k x y h (kept m f b e) = by-case (ltb mostText (length (x .front))) refl
+new-enough : (form : Form) (old : List ℕ) (k : ℕ) (x y : Split) → 131078 ≤ k → Alike k x y → behindOld form old y ≡ behindOld form old x
+new-enough form old k x y h (whole e) = ap (behindOld form old) e
+new-enough form old k x y h (long p q) = long-new form old (y .front) (x .front) (y .back) (x .back) lent (omega arith) (omega arith)
+new-enough form old k x y h (kept m f b e) = by-case (ltb mostText (length (x .front))) refl
   where
-    by-case : (c : Bool) → ltb mostText (length (x .front)) ≡ c → behindOld old y ≡ behindOld old x
+    by-case : (c : Bool) → ltb mostText (length (x .front)) ≡ c → behindOld form old y ≡ behindOld form old x
     by-case true l =
         let lt = ltb-true mostText (length (x .front)) l in
-        long-new old (y .front) (x .front) (y .back) (x .back) lent (omega (arith, ap length f)) lt
+        long-new form old (y .front) (x .front) (y .back) (x .back) lent (omega (arith, ap length f)) lt
     by-case false l =
         let le = ltb-false mostText (length (x .front)) l in
-        ap₂ {C = Result (List ℕ)} (λ (n o : List ℕ). recheck old n o lent) f b ∙ listing-enough old (x .front) (x .back) lent m (omega arith)
+        ap₂ {C = Result (List ℕ)} (λ (n o : List ℕ). recheck form old n o lent) f b ∙ listing-enough form old (x .front) (x .back) lent m (omega arith)
 
-parts-enough : (k : ℕ) (x y : Split) → 196619 ≤ k → Alike k x y → recheckParts y ≡ recheckParts x
-parts-enough k x y h (whole e) = ap recheckParts e
-parts-enough k x y h (long p q) =
-    long-old (y .front) _ _ lent (omega arith) ∙ sym (long-old (x .front) _ _ lent (omega arith))
-parts-enough k x y h (kept m f b e) = by-case (ltb mostText (length (x .front))) refl
+parts-enough : (form : Form) (k : ℕ) (x y : Split) → 196619 ≤ k → Alike k x y → recheckParts form y ≡ recheckParts form x
+parts-enough form k x y h (whole e) = ap (recheckParts form) e
+parts-enough form k x y h (long p q) =
+    long-old form (y .front) _ _ lent (omega arith) ∙ sym (long-old form (x .front) _ _ lent (omega arith))
+parts-enough form k x y h (kept m f b e) = by-case (ltb mostText (length (x .front))) refl
   where
-    by-case : (c : Bool) → ltb mostText (length (x .front)) ≡ c → recheckParts y ≡ recheckParts x
+    by-case : (c : Bool) → ltb mostText (length (x .front)) ≡ c → recheckParts form y ≡ recheckParts form x
     by-case true l =
         let lt = ltb-true mostText (length (x .front)) l in
-        long-old (y .front) _ _ lent (omega (arith, ap length f)) ∙ sym (long-old (x .front) _ _ lent lt)
+        long-old form (y .front) _ _ lent (omega (arith, ap length f)) ∙ sym (long-old form (x .front) _ _ lent lt)
     by-case false l =
         let le = ltb-false mostText (length (x .front)) l in
-        ap₂ {C = Result (List ℕ)} (λ (o t : List ℕ). behindOld o (splitNext t)) f b
-        ∙ new-enough (x .front) m (splitNext (x .back)) (splitNext (take m (x .back))) (omega arith) (split-alike m (x .back))
+        ap₂ {C = Result (List ℕ)} (λ (o t : List ℕ). behindOld form o (splitNext t)) f b
+        ∙ new-enough form (x .front) m (splitNext (x .back)) (splitNext (take m (x .back))) (omega arith) (split-alike m (x .back))
 
 -- recheck reads two tables as long as a table may be, each with its line `next`, and one byte more than an old listing may have
-pub recheck-enough : (input : List ℕ) → recheckProgram (take 196619 input) ≡ recheckProgram input
+pub recheck-enough : (form : Form) (input : List ℕ) → recheckProgram form (take 196619 input) ≡ recheckProgram form input
 unfolding recheckProgram
-recheck-enough input = ap printed (parts-enough 196619 (splitNext input) (splitNext (take 196619 input)) (omega arith) (split-alike 196619 input))
+recheck-enough form input = ap printed (parts-enough form 196619 (splitNext input) (splitNext (take 196619 input)) (omega arith) (split-alike 196619 input))

@@ -42,6 +42,21 @@ pub fn work_room() -> [u32; WorkSlice::LENGTH]
     [0u32; WorkSlice::LENGTH]
 }
 
+// One byte more than a table may have: a longer input is answered like its first 65,537 bytes.
+pub fn text_room() -> [u8; 65537]
+    ensures { λ r. ⌜ 65537 ≡ length r ⌝ }
+{
+    [0u8; 65537]
+}
+
+// Two tables as long as a table may be, each with its line `next`, and one byte more than an old listing may have. A longer input has a part
+// that is too long within these bytes, so it is answered like them.
+pub fn parts_room() -> [u8; 196619]
+    ensures { λ r. ⌜ 196619 ≡ length r ⌝ }
+{
+    [0u8; 196619]
+}
+
 // How many bytes of out are to be shown: the text that was written there, or the line `refused`.
 pub fn shown(outcome: Outcome, out: &mut [u8]) -> u32
     ensures { λ r. ⌜ ShowsOutcome outcome (now (out .entry)) (now (out .exit)) r ⌝ }

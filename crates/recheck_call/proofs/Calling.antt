@@ -37,6 +37,7 @@ use Rattle.compare.proofs.Comparing.{same-counts}
 use Rattle.affected.proofs.Searching.{searched, root-ids}
 use Rattle.lang_check.specs.Roots.{LentTo}
 use Rattle.outcomes.specs.Outcomes.{Short, Says, Wiped}
+use Rattle.rules.specs.declared.Form.{Form}
 use Rattle.answers.specs.Runs.{Fresh}
 use Rattle.answers.specs.Mixes.{OldLines, Noted}
 use Rattle.answers.specs.Asks.{Delivers}
@@ -55,15 +56,15 @@ unfolding firstPass
 counted {text} {table} {t} {T} e q = sym (q .knows .count) ∙ many text table t T (q .read) e
 
 -- two tables with as many lines of each kind, and the old lines of the roots
-pub record Flagged (listing out old table : List ℕ) (t : Table) (arena work out′ : List ℕ) (r : Outcome) : Type 0 where
+pub record Flagged (form : Form) (listing out old table : List ℕ) (t : Table) (arena work out′ : List ℕ) (r : Outcome) : Type 0 where
   pub is : {T₁ T₂ : rules.Table} {texts : List (List ℕ)} → Before T₁ t old → Fresh T₂ t table arena work → OldLines listing texts old (t .roots)
-      → Says (leaves out (fits (length out) (recheckText T₁ T₂ texts))) out′ r
+      → Says (leaves out (fits (length out) (recheckText form T₁ T₂ texts))) out′ r
 
 -- prepared, flagged, and brought to the output
-pub flagged : {listing out old table arena work table₁ old₁ work₁ out′ : List ℕ} {t : Table} {g : Prepared} {r : Outcome}
+pub flagged : {form : Form} {listing out old table arena work table₁ old₁ work₁ out′ : List ℕ} {t : Table} {g : Prepared} {r : Outcome}
     → Prepares table t table₁ g → length table₁ ≡ length table → FlagsRedone old table₁ work (g .canon) (g .first) (g .roots) old₁
-    → length work₁ ≡ length work → Delivers listing out old₁ table₁ g arena work₁ Mixed out′ r → Flagged listing out old table t arena work out′ r
-flagged {listing} {out} {old} {table} {arena} {work} {table₁} {old₁} {work₁} {out′} {t} {g} {r} p l h lw s = record {
+    → length work₁ ≡ length work → Delivers listing out old₁ table₁ g arena work₁ (Mixed form) out′ r → Flagged form listing out old table t arena work out′ r
+flagged {form} {listing} {out} {old} {table} {arena} {work} {table₁} {old₁} {work₁} {out′} {t} {g} {r} p l h lw s = record {
   is = λ {T₁} {T₂} {texts} b f lines.
       let q : IsPrepared (f .text) t T₂ table₁ g = p .is (f .text) T₂ (f .read) (f .is) (f .lent .table) (f .zeros) in
       let same = q .roots in
@@ -84,21 +85,21 @@ flagged {listing} {out} {old} {table} {arena} {work} {table₁} {old₁} {work�
             work (f .lent .work))
             (root-ids q) (omega (arith, b .long));
       } in
-      s .is (recheckText T₁ T₂ texts) (running-on (fresh-prepared f p l) refl refl lw) (record { before = T₁; texts = texts; noted = noted; is = refl });
+      s .is (recheckText form T₁ T₂ texts) (running-on (fresh-prepared f p l) refl refl lw) (record { before = T₁; texts = texts; noted = noted; is = refl });
 }
 
 -- two tables that may be compared or not
-module _ (T₁ T₂ : rules.Table) (listing : List ℕ) (room : ℕ) where
+module _ (form : Form) (T₁ T₂ : rules.Table) (listing : List ℕ) (room : ℕ) where
   abbrev listingOf : Result (List (List ℕ))
-  listingOf = oldListing (length (T₂ .names)) (T₂ .roots) listing
+  listingOf = oldListing form (length (T₂ .names)) (T₂ .roots) listing
 
   abbrev fitting : Result (List (List ℕ)) → Result (List ℕ)
-  fitting m = then m (λ (texts : List (List ℕ)). fits room (recheckText T₁ T₂ texts))
+  fitting m = then m (λ (texts : List (List ℕ)). fits room (recheckText form T₁ T₂ texts))
 
-  apart-of : comparable T₁ T₂ ≡ false → recheckOf T₁ T₂ listing room ≡ refused 10 0
+  apart-of : comparable T₁ T₂ ≡ false → recheckOf form T₁ T₂ listing room ≡ refused 10 0
   apart-of e = ap (λ (b : Bool). unless b (λ _. refused 10 0) (λ _. fitting listingOf)) e
 
-  alike-of : comparable T₁ T₂ ≡ true → (m : Result (List (List ℕ))) → m ≡ listingOf → recheckOf T₁ T₂ listing room ≡ fitting m
+  alike-of : comparable T₁ T₂ ≡ true → (m : Result (List (List ℕ))) → m ≡ listingOf → recheckOf form T₁ T₂ listing room ≡ fitting m
   alike-of e m f = ap (λ (b : Bool). unless b (λ _. refused 10 0) (λ _. fitting listingOf)) e ∙ ap fitting (sym f)
 
 -- a listing that is taken is short enough
@@ -106,9 +107,9 @@ short-turn : {A : Type 0} (b : Bool) (x : Result A) (a : A) → accepted a ≡ i
 short-turn true x a e = absurd (let z : _≡_ {A = ℕ} 0 1 = cc in omega arith)
 short-turn false x a e = refl
 
-listing-short : (names : ℕ) (rs : List Root) (s : List ℕ) (texts : List (List ℕ)) → accepted texts ≡ oldListing names rs s → length s ≤ mostText
+listing-short : (form : Form) (names : ℕ) (rs : List Root) (s : List ℕ) (texts : List (List ℕ)) → accepted texts ≡ oldListing form names rs s → length s ≤ mostText
 unfolding oldListing
-listing-short names rs s texts e = ltb-false mostText (length s) (short-turn (ltb mostText (length s)) _ texts e)
+listing-short form names rs s texts e = ltb-false mostText (length s) (short-turn (ltb mostText (length s)) _ texts e)
 
 -- the names and the roots of a table that was read
 names-many : (text w : List ℕ) (t : Table) (T : rules.Table) → Read text w (Accepted t) → tableOf text ≡ accepted T → length (T .names) ≡ t .names
@@ -141,36 +142,36 @@ few-lines : {T : rules.Table} {t : Table} {table arena work : List ℕ} {n : ℕ
 few-lines {t = t} f h = let few : t .roots ≤ mostRoots = f .read .laid .few .roots in omega (arith, roots-counted f h)
 
 -- what was read of the old listing is what the rules say
-old-is : {listing old table arena work old₁ : List ℕ} {T : rules.Table} {t : Table} {names first n : ℕ} {a : Old} → Fresh T t table arena work
-    → Number (t .names) names → FirstRoot t first → Number (t .roots) n → ReadOld listing names table first n old arena old₁ a
-    → tableLength ≤ length old → lineLength ≤ length arena → (z : Old) → a ≡ z → oldOf z listing old₁ n ≡ oldListing (length (T .names)) (T .roots) listing
-old-is {listing} {old} {table} {arena} {work} {old₁} {T} {t} {names} {first} {n} {a} f names-is first-is n-is q long line z e =
+old-is : {form : Form} {listing old table arena work old₁ : List ℕ} {T : rules.Table} {t : Table} {names first n : ℕ} {a : Old} → Fresh T t table arena work
+    → Number (t .names) names → FirstRoot t first → Number (t .roots) n → ReadOld form listing names table first n old arena old₁ a
+    → tableLength ≤ length old → lineLength ≤ length arena → (z : Old) → a ≡ z → oldOf z listing old₁ n ≡ oldListing form (length (T .names)) (T .roots) listing
+old-is {form} {listing} {old} {table} {arena} {work} {old₁} {T} {t} {names} {first} {n} {a} f names-is first-is n-is q long line z e =
     let low = few-lines f n-is in
     let few : t .names ≤ mostNames = f .read .laid .few .names in
     let same : names ≡ length (T .names) = names-is .is (omega arith) ∙ sym (names-many (f .text) table t T (f .read) (f .is)) in
     ap (λ (x : Old). oldOf x listing old₁ n) (sym e)
     ∙ q .is (T .roots) (roots-at (f .text) table t T (f .read) (f .is) first-is (roots-counted f n-is)) (omega arith) line
-    ∙ ap (λ (k : ℕ). oldListing k (T .roots) listing) same
+    ∙ ap (λ (k : ℕ). oldListing form k (T .roots) listing) same
 
 -- each way out of `compare_both`
-module _ {listing out old table arena work : List ℕ} {u t : Table} {b : Bool} (h : Comparable old u table t b) where
-  pub not-comparable : not b ≡ true → ComparesBoth listing out old u table t arena work out (Refused 10 0)
+module _ {form : Form} {listing out old table arena work : List ℕ} {u t : Table} {b : Bool} (h : Comparable old u table t b) where
+  pub not-comparable : not b ≡ true → ComparesBoth form listing out old u table t arena work out (Refused 10 0)
   not-comparable e = record {
-    is = λ {T₁} {T₂} o f l. refused-as out (apart-of T₁ T₂ listing (length out) (compared h T₁ T₂ o f (not-true b e)));
+    is = λ {T₁} {T₂} o f l. refused-as out (apart-of form T₁ T₂ listing (length out) (compared h T₁ T₂ o f (not-true b e)));
   }
 
   module _ (yes : not b ≡ false) {names first n : ℕ} (names-is : Number (t .names) names) (first-is : FirstRoot t first) (n-is : Number (t .roots) n)
-      {old₁ : List ℕ} {a : Old} (q : ReadOld listing names table first n old arena old₁ a) where
-    pub refused-old : {k : ℕ} → a ≡ OldRefused k → ComparesBoth listing out old u table t arena work out (Refused 11 k)
+      {old₁ : List ℕ} {a : Old} (q : ReadOld form listing names table first n old arena old₁ a) where
+    pub refused-old : {k : ℕ} → a ≡ OldRefused k → ComparesBoth form listing out old u table t arena work out (Refused 11 k)
     refused-old {k} e = record {
       is = λ {T₁} {T₂} o f l.
           refused-as out
-          (alike-of T₁ T₂ listing (length out) (compared h T₁ T₂ o f (not-false b yes)) (refused 11 k)
+          (alike-of form T₁ T₂ listing (length out) (compared h T₁ T₂ o f (not-false b yes)) (refused 11 k)
           (old-is f names-is first-is n-is q (o .long) l (OldRefused k) e));
     }
 
     pub listed-both : {arena₁ out′ : List ℕ} {r : Outcome} → a ≡ InForm → length old₁ ≡ length old → length arena₁ ≡ length arena
-        → Flagged listing out old₁ table t arena₁ work out′ r → ComparesBoth listing out old u table t arena work out′ r
+        → Flagged form listing out old₁ table t arena₁ work out′ r → ComparesBoth form listing out old u table t arena work out′ r
     listed-both {arena₁} {out′} {r} e lo la s = record {
       is = λ {T₁} {T₂} o f l.
           let few = few-lines f n-is in
@@ -200,38 +201,38 @@ module _ {listing out old table arena work : List ℕ} {u t : Table} {b : Bool} 
           record {
             are = ap (run (spanAt listing old₁) 0) (sym same);
             within = λ i lt. inside (i + 1) (omega arith);
-            short = listing-short (length (T₂ .names)) (T₂ .roots) listing texts known;
+            short = listing-short form (length (T₂ .names)) (T₂ .roots) listing texts known;
           } in
-          says-as out (alike-of T₁ T₂ listing (length out) like (accepted texts) known) (s .is before fresh lines);
+          says-as out (alike-of form T₁ T₂ listing (length out) like (accepted texts) known) (s .is before fresh lines);
     }
 
 -- a new table, where the old one was accepted
-pub record ReadsNew (newText listing out old : List ℕ) (u : Table) (table arena work out′ : List ℕ) (r : Outcome) : Type 0 where
+pub record ReadsNew (form : Form) (newText listing out old : List ℕ) (u : Table) (table arena work out′ : List ℕ) (r : Outcome) : Type 0 where
   pub is : {T₁ : rules.Table} → Before T₁ u old → LentTo table arena work → lineLength ≤ length arena
-      → Says (leaves out (then (tableOf newText) (λ (T₂ : rules.Table). recheckOf T₁ T₂ listing (length out)))) out′ r
+      → Says (leaves out (then (tableOf newText) (λ (T₂ : rules.Table). recheckOf form T₁ T₂ listing (length out)))) out′ r
 
 -- what was read of it after facts that were cleared
-module _ {newText listing out old table arena work table₁ table₂ : List ℕ} {u : Table} {a : Answer} (q : ReadInto newText table₁ table₂ a) where
-  pub refused-new : {k l : ℕ} → a ≡ TableRefused k l → ReadsNew newText listing out old u table arena work out (Refused k l)
+module _ {form : Form} {newText listing out old table arena work table₁ table₂ : List ℕ} {u : Table} {a : Answer} (q : ReadInto newText table₁ table₂ a) where
+  pub refused-new : {k l : ℕ} → a ≡ TableRefused k l → ReadsNew form newText listing out old u table arena work out (Refused k l)
   refused-new {k} {l} e = record {
     is = λ {T₁} o lent m.
-        refused-as out (ap (λ (x : Result rules.Table). then x (λ (T₂ : rules.Table). recheckOf T₁ T₂ listing (length out))) (refused-read q e));
+        refused-as out (ap (λ (x : Result rules.Table). then x (λ (T₂ : rules.Table). recheckOf form T₁ T₂ listing (length out))) (refused-read q e));
   }
 
   pub compared-new : {t : Table} {out′ : List ℕ} {r : Outcome} → a ≡ Accepted t → Clears table 0 rowsAt table₁ → length table₁ ≡ length table
-      → ComparesBoth listing out old u table₂ t arena work out′ r → ReadsNew newText listing out old u table arena work out′ r
+      → ComparesBoth form listing out old u table₂ t arena work out′ r → ReadsNew form newText listing out old u table arena work out′ r
   compared-new {t} e c l s = record {
     is = λ {T₁} o lent m.
-        says-as out (ap (λ (x : Result rules.Table). then x (λ (T₂ : rules.Table). recheckOf T₁ T₂ listing (length out))) (accepted-read q e))
+        says-as out (ap (λ (x : Result rules.Table). then x (λ (T₂ : rules.Table). recheckOf form T₁ T₂ listing (length out))) (accepted-read q e))
         (s .is o (fresh-read c l q e lent) m);
   }
 
 -- what the old table's text says
-by-old : (oldText newText listing : List ℕ) (room : ℕ) (x : Result rules.Table) → tableOf oldText ≡ x → recheck oldText newText listing room
-    ≡ then x (λ (T₁ : rules.Table). then (tableOf newText) (λ (T₂ : rules.Table). recheckOf T₁ T₂ listing room))
+by-old : (form : Form) (oldText newText listing : List ℕ) (room : ℕ) (x : Result rules.Table) → tableOf oldText ≡ x → recheck form oldText newText listing room
+    ≡ then x (λ (T₁ : rules.Table). then (tableOf newText) (λ (T₂ : rules.Table). recheckOf form T₁ T₂ listing room))
 unfolding recheck
-by-old oldText newText listing room x e =
-    ap (λ (m : Result rules.Table). then m (λ (T₁ : rules.Table). then (tableOf newText) (λ (T₂ : rules.Table). recheckOf T₁ T₂ listing room))) e
+by-old form oldText newText listing room x e =
+    ap (λ (m : Result rules.Table). then m (λ (T₁ : rules.Table). then (tableOf newText) (λ (T₂ : rules.Table). recheckOf form T₁ T₂ listing room))) e
 
 -- what the tests for a short scratch come to
 tested : (draft old table arena work : List ℕ) {b c : Bool} → tableLength ≤ length old
@@ -239,42 +240,42 @@ tested : (draft old table arena work : List ℕ) {b c : Bool} → tableLength �
 tested draft old table arena work room h e = rw (le-ltb (length old) tableLength room) (sym (h .is) ∙ e)
 
 -- each way out of `answer`; b is what the second test said
-module _ {oldText newText listing out draft old table arena work : List ℕ} where
+module _ {form : Form} {oldText newText listing out draft old table arena work : List ℕ} where
   answer-by : {out′ : List ℕ} {r : Outcome} (c : Bool) → recheckShort draft old table arena work ≡ c
-      → Says (leaves out (unlessShort c (recheck oldText newText listing (length out)))) out′ r
-      → Answers oldText newText listing out draft old table arena work out′ r
+      → Says (leaves out (unlessShort c (recheck form oldText newText listing (length out)))) out′ r
+      → Answers form oldText newText listing out draft old table arena work out′ r
   unfolding recheckCall
   answer-by {out′} {r} c e s = record {
-    is = subst (λ (x : Bool). Says (leaves out (unlessShort x (recheck oldText newText listing (length out)))) out′ r) (sym e) s;
+    is = subst (λ (x : Bool). Says (leaves out (unlessShort x (recheck form oldText newText listing (length out)))) out′ r) (sym e) s;
   }
 
-  pub short-old : length old < tableLength → Answers oldText newText listing out draft old table arena work out (Refused 20 0)
+  pub short-old : length old < tableLength → Answers form oldText newText listing out draft old table arena work out (Refused 20 0)
   short-old h = answer-by true (simp (lt-ltb (length old) tableLength h)) (record { outcome = refl; output = refl })
 
   module _ (room : tableLength ≤ length old) {b : Bool} (h : Short (length draft) (length table) (length arena) lineLength (length work) b) where
-    pub short-answer : b ≡ true → Answers oldText newText listing out draft old table arena work out (Refused 20 0)
+    pub short-answer : b ≡ true → Answers form oldText newText listing out draft old table arena work out (Refused 20 0)
     short-answer e = answer-by true (tested draft old table arena work room h e) (record { outcome = refl; output = refl })
 
     module _ (long : b ≡ false) {old₁ : List ℕ} {a : Answer} (q : ReadInto oldText old old₁ a) where
-      pub refused-answer : {k l : ℕ} → a ≡ TableRefused k l → Answers oldText newText listing out draft old table arena work out (Refused k l)
+      pub refused-answer : {k l : ℕ} → a ≡ TableRefused k l → Answers form oldText newText listing out draft old table arena work out (Refused k l)
       refused-answer {k} {l} e =
-          answer-by false (tested draft old table arena work room h long) (refused-as out (by-old oldText newText listing (length out) (refused k l) (refused-read q e)))
+          answer-by false (tested draft old table arena work room h long) (refused-as out (by-old form oldText newText listing (length out) (refused k l) (refused-read q e)))
 
-      pub new-answer : {u : Table} {out′ : List ℕ} {r : Outcome} → a ≡ Accepted u → ReadsNew newText listing out old₁ u table arena work out′ r
-          → Answers oldText newText listing out draft old table arena work out′ r
+      pub new-answer : {u : Table} {out′ : List ℕ} {r : Outcome} → a ≡ Accepted u → ReadsNew form newText listing out old₁ u table arena work out′ r
+          → Answers form oldText newText listing out draft old table arena work out′ r
       new-answer {u} e s =
           let n = long-enough h long in
           let is = accepted-read q e in
           let before : Before (rules.fromSections (tableFrom u old₁)) u old₁ =
           record { text = oldText; is = is; read = subst (Read oldText old₁) e (q .read); long = omega (arith, q .apart .same-length) } in
           answer-by false (tested draft old table arena work room h long)
-          (says-as out (by-old oldText newText listing (length out) _ is)
+          (says-as out (by-old form oldText newText listing (length out) _ is)
           (s .is before (record { table = n .0; arena = omega (arith, n .1); work = n .2 }) (n .1)))
 
--- what `recheck` comes to
-pub rechecked : {oldText newText listing out draft old table arena work draft₁ table₁ arena₁ work₁ out′ draft′ old′ table′ arena′ work′ : List ℕ} {n : ℕ}
-    {r : Outcome} → Answers oldText newText listing out draft old table arena work out′ r
+-- what `recheck_in` comes to
+pub rechecked : {form : Form} {oldText newText listing out draft old table arena work draft₁ table₁ arena₁ work₁ out′ draft′ old′ table′ arena′ work′ : List ℕ} {n : ℕ}
+    {r : Outcome} → Answers form oldText newText listing out draft old table arena work out′ r
     → length draft₁ ≡ length draft → n ≡ length old → length table₁ ≡ length table → length arena₁ ≡ length arena → length work₁ ≡ length work
     → old′ ≡ replicate n 0 → Wiped draft₁ table₁ arena₁ work₁ draft′ table′ arena′ work′
-    → Rechecked oldText newText listing out draft old table arena work out′ draft′ old′ table′ arena′ work′ r
+    → Rechecked form oldText newText listing out draft old table arena work out′ draft′ old′ table′ arena′ work′ r
 rechecked s d o t a w zo z = record { called = called (s .is) d t a w z; old-zero = record { is = zo ∙ ap (λ (k : ℕ). replicate k 0) o } }

@@ -1,4 +1,4 @@
--- What recheck promises: the outcome, the output, and every lent cell. And what the functions on the way ensure.
+-- What recheck and recheck_numbered promise: the outcome, the output, and every lent cell. And what the functions on the way ensure.
 use mathlib.Core.Path.{_≡_}
 use mathlib.Core.Bool.{Bool, true}
 use Prim.Native.Nat.{ℕ, _≤_}
@@ -11,6 +11,7 @@ use Rattle.rules.specs.Plain.{unless}
 use Rattle.rules.specs.Table.{Result, accepted, refused, then, tableOf}
 use Rattle.rules.specs.Table as rules
 use Rattle.rules.specs.Listing.{oldListing}
+use Rattle.rules.specs.declared.Form.{Form}
 use Rattle.rules.specs.Calls.{fits, comparable, recheckText, leaves, recheckCall}
 use Rattle.table.specs.declared.Table.{Table}
 use Rattle.table.specs.declared.Answer.the-variants.{Accepted}
@@ -19,7 +20,7 @@ use Rattle.outcomes.specs.Outcomes.{isShort, Says, Zero, Called}
 use Rattle.answers.specs.Runs.{Fresh}
 use Rattle.outcomes.specs.declared.Outcome.{Outcome}
 
--- 20 for recheck: an old table, and what canon is lent, with an arena that takes a line of an old listing
+-- 20 for both: an old table, and what canon is lent, with an arena that takes a line of an old listing
 abbrev pub recheckShort : List ℕ → List ℕ → List ℕ → List ℕ → List ℕ → Bool
 recheckShort draft old table arena work =
     if (ltb (length old) tableLength) (λ _. true) (λ _. isShort (length draft) (length table) (length arena) lineLength (length work))
@@ -32,20 +33,20 @@ pub record Before (T : rules.Table) (u : Table) (old : List ℕ) : Type 0 where
   pub long : tableLength ≤ length old
 
 -- what is made of two tables that were accepted, as the rules have it
-abbrev pub recheckOf : rules.Table → rules.Table → List ℕ → ℕ → Result (List ℕ)
-recheckOf T₁ T₂ listing room =
+abbrev pub recheckOf : Form → rules.Table → rules.Table → List ℕ → ℕ → Result (List ℕ)
+recheckOf form T₁ T₂ listing room =
     unless (comparable T₁ T₂) (λ _. refused 10 0)
-    (λ _. then (oldListing (length (T₂ .names)) (T₂ .roots) listing) (λ (texts : List (List ℕ)). fits room (recheckText T₁ T₂ texts)))
+    (λ _. then (oldListing form (length (T₂ .names)) (T₂ .roots) listing) (λ (texts : List (List ℕ)). fits room (recheckText form T₁ T₂ texts)))
 
-pub record ComparesBoth (listing out old : List ℕ) (u : Table) (table : List ℕ) (t : Table) (arena work out′ : List ℕ) (r : Outcome) : Type 0 where
+pub record ComparesBoth (form : Form) (listing out old : List ℕ) (u : Table) (table : List ℕ) (t : Table) (arena work out′ : List ℕ) (r : Outcome) : Type 0 where
   pub is : {T₁ T₂ : rules.Table} → Before T₁ u old → Fresh T₂ t table arena work → lineLength ≤ length arena
-      → Says (leaves out (recheckOf T₁ T₂ listing (length out))) out′ r
+      → Says (leaves out (recheckOf form T₁ T₂ listing (length out))) out′ r
 
-pub record Answers (oldText newText listing out draft old table arena work out′ : List ℕ) (r : Outcome) : Type 0 where
-  pub is : Says (recheckCall oldText newText listing out (recheckShort draft old table arena work)) out′ r
+pub record Answers (form : Form) (oldText newText listing out draft old table arena work out′ : List ℕ) (r : Outcome) : Type 0 where
+  pub is : Says (recheckCall form oldText newText listing out (recheckShort draft old table arena work)) out′ r
 
--- what is promised of recheck
-pub record Rechecked (oldText newText listing out draft old table arena work out′ draft′ old′ table′ arena′ work′ : List ℕ) (r : Outcome) : Type 0 where
-  pub called : Called (recheckCall oldText newText listing out (recheckShort draft old table arena work))
+-- what is promised of recheck, whose listings are plain, and of recheck_numbered
+pub record Rechecked (form : Form) (oldText newText listing out draft old table arena work out′ draft′ old′ table′ arena′ work′ : List ℕ) (r : Outcome) : Type 0 where
+  pub called : Called (recheckCall form oldText newText listing out (recheckShort draft old table arena work))
       draft table arena work out′ draft′ table′ arena′ work′ r
   pub old-zero : Zero old old′

@@ -1,7 +1,8 @@
-// recheck: the listing of a table that was edited, with the listing from before the edit. A root that no edited entry is reached from
+// recheck and recheck_numbered: the listing of a table that was edited, with the listing from before the edit. A root that no edited entry is reached from
 // keeps its old lines. A call tests what is lent to it, refuses a short scratch with 20 before all else, and leaves every scratch zero.
 pub mod program;
 
+ghost use Rattle.rules.specs.declared.Form.the-variants.{Plain, Numbered};
 ghost use Rattle.recheck_call.specs.Rechecked.{ComparesBoth, Answers, Rechecked};
 use affected::flag_redone;
 use answers::asked::Asked;
@@ -17,11 +18,13 @@ use outcomes::Outcome;
 use prepare::first_root;
 use prepare::number;
 use prepare::prepare;
+use rules::Form;
 use table::Answer;
 use table::Table;
 
 // Two tables that were accepted: 10, then 11, then the roots flagged and the text.
 fn compare_both(
+    form: Form,
     listing: &[u8],
     out: &mut [u8],
     draft: &mut [u8],
@@ -32,13 +35,14 @@ fn compare_both(
     arena: &mut [u32],
     work: &mut [u32],
 ) -> Outcome
-    ensures { λ r. ⌜ ComparesBoth (now (listing .entry)) (now (out .entry)) (now (old .entry)) u (now (table .entry)) t (now (arena .entry))
+    ensures { λ r. ⌜ ComparesBoth form (now (listing .entry)) (now (out .entry)) (now (old .entry)) u (now (table .entry)) t (now (arena .entry))
         (now (work .entry)) (now (out .exit)) r ⌝ }
 {
     if !comparable(old, u, table, t) {
         return Outcome::Refused(10, 0);
     }
     match read_old(
+        form,
         listing,
         old,
         table,
@@ -61,7 +65,7 @@ fn compare_both(
                 g,
                 arena,
                 work,
-                Asked::Mixed,
+                Asked::Mixed(form),
             )
         }
     }
@@ -70,6 +74,7 @@ fn compare_both(
 // A call before the scratch is wiped: 20, the old table's refusal, the new table's, whose facts are zero before the first run, and what comes
 // of both.
 fn answer(
+    form: Form,
     old_text: &[u8],
     new_text: &[u8],
     listing: &[u8],
@@ -80,7 +85,7 @@ fn answer(
     arena: &mut [u32],
     work: &mut [u32],
 ) -> Outcome
-    ensures { λ r. ⌜ Answers (now («old_text» .entry)) (now («new_text» .entry)) (now (listing .entry)) (now (out .entry)) (now (draft .entry))
+    ensures { λ r. ⌜ Answers form (now («old_text» .entry)) (now («new_text» .entry)) (now (listing .entry)) (now (out .entry)) (now (draft .entry))
         (now (old .entry)) (now (table .entry)) (now (arena .entry)) (now (work .entry)) (now (out .exit)) r ⌝ }
 {
     if old.len() < TableSlice::LENGTH {
@@ -102,6 +107,7 @@ fn answer(
             match table::read(new_text, table) {
                 Answer::Refused(k, l) => Outcome::Refused(k, l),
                 Answer::Accepted(t) => compare_both(
+                    form,
                     listing,
                     out,
                     draft,
@@ -117,8 +123,9 @@ fn answer(
     }
 }
 
-// The listing of the new table after a line of `kept` or `redone` for each root, or the refusal; the scratch is wiped after it.
-pub fn recheck(
+// The listing of the new table in this form after a line of `kept` or `redone` for each root, or the refusal; the scratch is wiped after it.
+pub fn recheck_in(
+    form: Form,
     old_text: &[u8],
     new_text: &[u8],
     listing: &[u8],
@@ -129,11 +136,12 @@ pub fn recheck(
     arena: &mut [u32],
     work: &mut [u32],
 ) -> Outcome
-    ensures { λ r. ⌜ Rechecked (now («old_text» .entry)) (now («new_text» .entry)) (now (listing .entry)) (now (out .entry)) (now (draft .entry))
+    ensures { λ r. ⌜ Rechecked form (now («old_text» .entry)) (now («new_text» .entry)) (now (listing .entry)) (now (out .entry)) (now (draft .entry))
         (now (old .entry)) (now (table .entry)) (now (arena .entry)) (now (work .entry)) (now (out .exit)) (now (draft .exit)) (now (old .exit))
         (now (table .exit)) (now (arena .exit)) (now (work .exit)) r ⌝ }
 {
     let r = answer(
+        form,
         old_text,
         new_text,
         listing,
@@ -147,4 +155,64 @@ pub fn recheck(
     wipe(old);
     outcomes::wipe_all(draft, table, arena, work);
     r
+}
+
+// The same with plain listings.
+pub fn recheck(
+    old_text: &[u8],
+    new_text: &[u8],
+    listing: &[u8],
+    out: &mut [u8],
+    draft: &mut [u8],
+    old: &mut [u32],
+    table: &mut [u32],
+    arena: &mut [u32],
+    work: &mut [u32],
+) -> Outcome
+    ensures { λ r. ⌜ Rechecked Plain (now («old_text» .entry)) (now («new_text» .entry)) (now (listing .entry)) (now (out .entry)) (now (draft .entry))
+        (now (old .entry)) (now (table .entry)) (now (arena .entry)) (now (work .entry)) (now (out .exit)) (now (draft .exit)) (now (old .exit))
+        (now (table .exit)) (now (arena .exit)) (now (work .exit)) r ⌝ }
+{
+    recheck_in(
+        Form::Plain,
+        old_text,
+        new_text,
+        listing,
+        out,
+        draft,
+        old,
+        table,
+        arena,
+        work,
+    )
+}
+
+// The same with numbered listings. A plain one is refused at its second line.
+pub fn recheck_numbered(
+    old_text: &[u8],
+    new_text: &[u8],
+    listing: &[u8],
+    out: &mut [u8],
+    draft: &mut [u8],
+    old: &mut [u32],
+    table: &mut [u32],
+    arena: &mut [u32],
+    work: &mut [u32],
+) -> Outcome
+    ensures { λ r. ⌜ Rechecked Numbered (now («old_text» .entry)) (now («new_text» .entry)) (now (listing .entry)) (now (out .entry)) (now (draft .entry))
+        (now (old .entry)) (now (table .entry)) (now (arena .entry)) (now (work .entry)) (now (out .exit)) (now (draft .exit)) (now (old .exit))
+        (now (table .exit)) (now (arena .exit)) (now (work .exit)) r ⌝ }
+{
+    recheck_in(
+        Form::Numbered,
+        old_text,
+        new_text,
+        listing,
+        out,
+        draft,
+        old,
+        table,
+        arena,
+        work,
+    )
 }

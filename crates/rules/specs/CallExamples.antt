@@ -20,23 +20,33 @@ use Rattle.rules.specs.Members.{simplify-union-neg-intersection, factor-
 use Rattle.rules.specs.Canonicalizer.{expand-bounds, expand-bounds-empty-fallback, canonicalize-inner, interRest, interRetry, interRule}
 use Rattle.rules.specs.Canonicalizer.{unionRule, rule, entered, visit, pass, canonicalize, firstPass, answerOf}
 use Rattle.rules.specs.Listing.{walk, nodeText, rootText, listingText, nodeOf, nodeInForm, oldListing}
+use Rattle.rules.specs.Variables.{free-type-vars, normalize-vars}
+use Rattle.rules.specs.declared.Form.the-variants.{Plain, Numbered}
 use Rattle.rules.specs.Calls.{canon, canonRoot, comparable, meets, recheckText, recheck, splitNext, lent, canonProgram, recheckProgram}
 
 -- a call, or a program, with all that it is given; the last number of a call is the length of its output
 pub data Call : Type 0 where
   ofCanon : List ℕ → ℕ → Call
+  ofCanonNumbered : List ℕ → ℕ → Call
   ofCanonRoot : List ℕ → ℕ → ℕ → ℕ → Call
   ofRecheck : List ℕ → List ℕ → List ℕ → ℕ → Call
+  ofRecheckNumbered : List ℕ → List ℕ → List ℕ → ℕ → Call
   canonReads : List ℕ → Call
   recheckReads : List ℕ → Call
+  canonNumberedReads : List ℕ → Call
+  recheckNumberedReads : List ℕ → Call
 
 -- what it comes to: the text or the refusal of a call, or what a program prints
 abbrev pub comesTo : Call → Result (List ℕ)
-comesTo (ofCanon text room) = canon text room
+comesTo (ofCanon text room) = canon Plain text room
+comesTo (ofCanonNumbered text room) = canon Numbered text room
 comesTo (ofCanonRoot text id s room) = canonRoot text id s room
-comesTo (ofRecheck old new listing room) = recheck old new listing room
-comesTo (canonReads input) = accepted (canonProgram input)
-comesTo (recheckReads input) = accepted (recheckProgram input)
+comesTo (ofRecheck old new listing room) = recheck Plain old new listing room
+comesTo (ofRecheckNumbered old new listing room) = recheck Numbered old new listing room
+comesTo (canonReads input) = accepted (canonProgram Plain input)
+comesTo (recheckReads input) = accepted (recheckProgram Plain input)
+comesTo (canonNumberedReads input) = accepted (canonProgram Numbered input)
+comesTo (recheckNumberedReads input) = accepted (recheckProgram Numbered input)
 
 abbrev pub written : String → Result (List ℕ)
 written text = accepted (ascii text)
@@ -88,6 +98,14 @@ onlyInt lines = ascii "budget\t1\nprim\t0\n" ++ ascii lines ++ ascii "root\t0\t+
 -- what recheck makes of that table, not edited, and an old listing
 abbrev pub keeping : String → ℕ → Call
 keeping listing room = ofRecheck (onlyInt "") (onlyInt "") (ascii listing) room
+
+-- the same with numbered listings
+abbrev pub keepingNumbered : String → ℕ → Call
+keepingNumbered listing room = ofRecheckNumbered (onlyInt "") (onlyInt "") (ascii listing) room
+
+-- two variables of a number that is no entry's, each a root
+abbrev pub twoVariables : String → List ℕ
+twoVariables second = ascii "budget\t1\ntyvar\t9\n" ++ ascii second ++ ascii "root\t0\t+\nroot\t1\t+\n"
 
 abbrev pub callExamples : List CallExample
 callExamples =
@@ -262,6 +280,51 @@ callExamples =
           ++ times 129 (ascii "prim\t0\n") ++ ascii "root\t0\t+\n") lent;
       result = written "answers\t1\nrefused\t0\t+\t7\n";
     }
+    -- request 1 of document 02. "the variables of one root get 0, 1, 2 in the order of their first appearance, walking from the root, param before
+    -- body, fields in key order": README's show that swaps two fields whose types it does not look at
+    ∷ record {
+      call = canonNumberedReads (ascii "budget\t4294967295\nname\tactual\nname\tplanned\nvar\t-\t3,4\nset\t0:6,1:7\t-\t0\t-\nlist\t1\nset\t0:7,1:6\t-\t1\t0\n"
+          ++ ascii "set\t0:7\t-\t1\t-\nfn\t0\t2\nvar\t-\t-\nvar\t-\t-\nroot\t5\t+\n");
+      result = written
+          "answers\t1\nnumbered\nroot\t5\t+\t2\t22\t0\t0\t6\n0\ttyvar\t0\n1\ttyvar\t1\n2\tset\t0:0,1:1\t-\t1\t-\n3\tset\t0:1,1:0\t-\t0\t-\n4\tlist\t3\n5\tfn\t2\t4\n";
+    }
+    -- "then dyn": variables 2, 1 and 0 of the set are 0, 1 and 2
+    ∷ record {
+      call = ofCanonNumbered (ascii "budget\t4294967295\nname\ta\nname\tb\nvar\t-\t-\nvar\t-\t-\nvar\t-\t-\nset\t0:2,1:1\t0\t0\t-\nfn\t3\t1\nroot\t4\t+\n") lent;
+      result = written
+          "answers\t1\nnumbered\nroot\t4\t+\t2\t12\t0\t0\t5\n0\ttyvar\t0\n1\ttyvar\t1\n2\ttyvar\t2\n3\tset\t0:0,1:1\t2\t0\t-\n4\tfn\t3\t1\n";
+    }
+    -- each root begins with 0; "Two variables get one number exactly if they were one": the first has variable 1 twice before 0, the last has it alone
+    ∷ record {
+      call = ofCanonNumbered (ascii "budget\t4294967295\nvar\t-\t-\nvar\t-\t-\nfn\t1\t0\nfn\t1\t2\nneg\t1\nfn\t4\t0\nfn\t1\t1\nroot\t3\t+\nroot\t5\t+\nroot\t6\t+\n") lent;
+      result = accepted (ascii "answers\t3\nnumbered\nroot\t3\t+\t1\t5\t0\t0\t4\n0\ttyvar\t0\n1\ttyvar\t1\n2\tfn\t0\t1\n3\tfn\t0\t2\n"
+          ++ ascii "root\t5\t+\t1\t4\t0\t0\t4\n0\ttyvar\t0\n1\tneg\t0\n2\ttyvar\t1\n3\tfn\t1\t2\nroot\t6\t+\t2\t6\t0\t0\t2\n0\ttyvar\t0\n1\tfn\t0\t0\n");
+    }
+    -- "A header line `numbered` follows `answers`", also with no roots; a refused root's line stays; "A root without variables keeps its nodes"
+    ∷ record { call = ofCanonNumbered (ascii "budget\t0\n") 19; result = written "answers\t0\nnumbered\n" }
+    ∷ record { call = ofCanonNumbered (ascii "budget\t0\n") 18; result = refused 12 0 }
+    ∷ record {
+      call = ofCanonNumbered (ascii "budget\t1\n" ++ nested 96 0 ++ ascii "root\t0\t-\nroot\t95\t+\n") lent;
+      result = written "answers\t2\nnumbered\nrefused\t0\t-\t6\nroot\t95\t+\t1\t2\t0\t0\t2\n0\tprim\t0\n1\tlist\t0\n";
+    }
+    -- recheck of numbered listings: a kept root's lines are copied, whatever its variable's number; a redone root's variables are numbered
+    ∷ record {
+      call = recheckNumberedReads (twoVariables "tyvar\t8\n" ++ ascii "next\n" ++ twoVariables "tyvar\t7\n" ++ ascii "next\nanswers\t2\nnumbered\n"
+          ++ ascii "root\t0\t+\t1\t1\t0\t0\t1\n0\ttyvar\t5\nroot\t1\t+\t1\t1\t0\t0\t1\n0\ttyvar\t5\n");
+      result = accepted (ascii "kept\tredone\nanswers\t2\nnumbered\nroot\t0\t+\t1\t1\t0\t0\t1\n0\ttyvar\t5\n"
+          ++ ascii "root\t1\t+\t1\t1\t0\t0\t1\n0\ttyvar\t0\n");
+    }
+    -- "recheck refuses a mixture of numbered and plain listings. Refusals: 11 for that mixture, at the header's line"; also where that line lacks,
+    -- and with no roots; a fault of line 1 comes first
+    ∷ record { call = keepingNumbered "answers\t1\nroot\t0\t+\t1\t1\t0\t0\t1\n0\tprim\t0\n" lent; result = refused 11 2 }
+    ∷ record { call = keeping "answers\t1\nnumbered\nroot\t0\t+\t1\t1\t0\t0\t1\n0\tprim\t0\n" lent; result = refused 11 2 }
+    ∷ record { call = keepingNumbered "answers\t1\n" lent; result = refused 11 2 }
+    ∷ record { call = keepingNumbered "answers\t1\nnumbered" lent; result = refused 11 2 }
+    ∷ record { call = keepingNumbered "answers\t1\nnumbered\n" lent; result = refused 11 3 }
+    ∷ record { call = keepingNumbered "answers\t2\nroot\t0\t+\t1\t1\t0\t0\t1\n0\tprim\t0\n" lent; result = refused 11 1 }
+    ∷ record { call = ofRecheckNumbered (ascii "budget\t0\n") (ascii "budget\t0\n") (ascii "answers\t0\n") lent; result = refused 11 2 }
+    ∷ record { call = ofRecheck (ascii "budget\t0\n") (ascii "budget\t0\n") (ascii "answers\t0\nnumbered\n") lent; result = refused 11 2 }
+    ∷ record { call = ofRecheckNumbered (ascii "budget\t0\n") (ascii "budget\t0\n") (ascii "answers\t0\nnumbered\n") lent; result = written "\nanswers\t0\nnumbered\n" }
     ∷ []
 
 called : map (λ (e : CallExample). comesTo (e .call)) callExamples ≡ map (λ (e : CallExample). e .result) callExamples
@@ -271,6 +334,6 @@ unfolding pieces digit number decimal hex escaped name fieldOf rowOf rowTexts fi
     remove-tautological-pairs absorb-subsumed-union-members merge-attrset-intersection remove-redundant-negations has-type-contradiction
     simplify-union-neg-intersection factor-shared-from-intersection negate-output-ty
     expand-bounds expand-bounds-empty-fallback canonicalize-inner interRest interRetry interRule unionRule rule entered visit pass
-    canonicalize firstPass answerOf walk nodeText rootText listingText nodeOf nodeInForm oldListing
+    canonicalize firstPass answerOf free-type-vars normalize-vars walk nodeText rootText listingText nodeOf nodeInForm oldListing
     canon canonRoot comparable meets recheckText recheck splitNext canonProgram recheckProgram
 called = refl

@@ -1,4 +1,5 @@
--- The calls: from input bytes and the length of the output to the bytes written, or the refusal. And the two programs.
+-- The calls: from input bytes and the length of the output to the bytes written, or the refusal. And the programs. A form is how variables are
+-- shown: `Plain` is document 01's, `Numbered` that of request 1 of document 02.
 use mathlib.Core.Bool.{Bool, true, false, not}
 use Prim.Native.Nat.{ℕ, zero, suc}
 use mathlib.Core.List.{List, [], _∷_, _++_, map}
@@ -9,20 +10,22 @@ use Rattle.rules.specs.Plain.{ascii, any, both, unless, joined}
 use Rattle.rules.specs.Ceilings.{mostText}
 use Rattle.rules.specs.Text.{lineFeed, pieces, parted, decimal, lineText}
 use Rattle.rules.specs.Table.{Pair, Root, Table, entryOf, kids, Result, accepted, refused, then, tableOf}
+use Rattle.rules.specs.declared.Form.{Form}
+use Rattle.rules.specs.declared.Form.the-variants.{Plain, Numbered}
 use Rattle.rules.specs.Listing.{rootText, rootTextOf, answersText, listingText, oldListing}
 
 -- 12: "the text to be written is longer than the lent output"
 abbrev pub fits : ℕ → List ℕ → Result (List ℕ)
 fits room text = if (ltb room (length text)) (λ _. refused 12 0) (λ _. accepted text)
 
--- canon: the listing of a table
-unfoldable pub canon : List ℕ → ℕ → Result (List ℕ)
-canon text room = then (tableOf text) (λ (t : Table). fits room (listingText t))
+-- canon: the plain listing of a table; canon_numbered: the numbered one
+unfoldable pub canon : Form → List ℕ → ℕ → Result (List ℕ)
+canon form text room = then (tableOf text) (λ (t : Table). fits room (listingText form t))
 
 -- "Calls that take a root directly refuse one of n or more with 3 and line 0". A sign of 0 is +, any other is -
 unfoldable pub canonRoot : List ℕ → ℕ → ℕ → ℕ → Result (List ℕ)
 canonRoot text id s room =
-    then (tableOf text) (λ (t : Table). unless (ltb id (length (t .entries))) (λ _. refused 3 0) (λ _. fits room (rootText t id s)))
+    then (tableOf text) (λ (t : Table). unless (ltb id (length (t .entries))) (λ _. refused 3 0) (λ _. fits room (rootText Plain t id s)))
 
 -- the same elements in the same order, by this test
 abbrev pub same : {A : Type 0} → (A → A → Bool) → List A → List A → Bool
@@ -66,24 +69,25 @@ redoneWord true = ascii "redone"
 redoneWord false = ascii "kept"
 
 -- the lines of each root: copied, or what the new table gives
-abbrev pub rechecked : Table → Table → List Root → List (List ℕ) → List (List ℕ)
-rechecked old new [] texts = []
-rechecked old new (r ∷ rs) [] = []
-rechecked old new (r ∷ rs) (x ∷ xs) = (if (redone old new r) (λ _. rootTextOf new r) (λ _. x)) ∷ rechecked old new rs xs
+abbrev pub rechecked : Form → Table → Table → List Root → List (List ℕ) → List (List ℕ)
+rechecked form old new [] texts = []
+rechecked form old new (r ∷ rs) [] = []
+rechecked form old new (r ∷ rs) (x ∷ xs) = (if (redone old new r) (λ _. rootTextOf form new r) (λ _. x)) ∷ rechecked form old new rs xs
 
 -- "a first line of `kept` or `redone` for each root, tab between, then the listing"
-unfoldable pub recheckText : Table → Table → List (List ℕ) → List ℕ
-recheckText old new texts =
+unfoldable pub recheckText : Form → Table → Table → List (List ℕ) → List ℕ
+recheckText form old new texts =
     lineText (map (λ (r : Root). redoneWord (redone old new r)) (new .roots))
-    ++ answersText (length (new .roots))
-    ++ joined (rechecked old new (new .roots) texts)
+    ++ answersText form (length (new .roots))
+    ++ joined (rechecked form old new (new .roots) texts)
 
--- recheck: the old table's refusals, the new table's, 10, 11, 12
-unfoldable pub recheck : List ℕ → List ℕ → List ℕ → ℕ → Result (List ℕ)
-recheck oldText newText listing room =
+-- recheck and recheck_numbered: the old table's refusals, the new table's, 10, 11, 12
+unfoldable pub recheck : Form → List ℕ → List ℕ → List ℕ → ℕ → Result (List ℕ)
+recheck form oldText newText listing room =
     then (tableOf oldText) (λ (old : Table). then (tableOf newText) (λ (new : Table).
     unless (comparable old new) (λ _. refused 10 0)
-    (λ _. then (oldListing (length (new .names)) (new .roots) listing) (λ (texts : List (List ℕ)). fits room (recheckText old new texts)))))
+    (λ _. then (oldListing form (length (new .names)) (new .roots) listing)
+    (λ (texts : List (List ℕ)). fits room (recheckText form old new texts)))))
 
 -- what a call leaves: how many bytes it wrote, or the refusal, and the lent output
 pub record Left : Type 0 where
@@ -100,14 +104,14 @@ abbrev pub unlessShort : {A : Type 0} → Bool → Result A → Result A
 unlessShort short r = if short (λ _. refused 20 0) (λ _. r)
 
 -- the public calls, of their inputs, the output as found, and whether a scratch is short
-unfoldable pub canonCall : List ℕ → List ℕ → Bool → Left
-canonCall text out short = leaves out (unlessShort short (canon text (length out)))
+unfoldable pub canonCall : Form → List ℕ → List ℕ → Bool → Left
+canonCall form text out short = leaves out (unlessShort short (canon form text (length out)))
 
 unfoldable pub canonRootCall : List ℕ → ℕ → ℕ → List ℕ → Bool → Left
 canonRootCall text id s out short = leaves out (unlessShort short (canonRoot text id s (length out)))
 
-unfoldable pub recheckCall : List ℕ → List ℕ → List ℕ → List ℕ → Bool → Left
-recheckCall oldText newText listing out short = leaves out (unlessShort short (recheck oldText newText listing (length out)))
+unfoldable pub recheckCall : Form → List ℕ → List ℕ → List ℕ → List ℕ → Bool → Left
+recheckCall form oldText newText listing out short = leaves out (unlessShort short (recheck form oldText newText listing (length out)))
 
 pub record Split : Type 0 where
   pub front : List ℕ
@@ -133,13 +137,13 @@ printed (refused k l) = lineText (ascii "refused" ∷ decimal k ∷ decimal l �
 abbrev pub lent : ℕ
 lent = mostText
 
--- the program canon, from standard input to standard output
-unfoldable pub canonProgram : List ℕ → List ℕ
-canonProgram input = printed (canon input lent)
+-- the programs canon and canon_numbered, from standard input to standard output
+unfoldable pub canonProgram : Form → List ℕ → List ℕ
+canonProgram form input = printed (canon form input lent)
 
-abbrev pub recheckParts : Split → Result (List ℕ)
-recheckParts s = recheck (s .front) (splitNext (s .back) .front) (splitNext (s .back) .back) lent
+abbrev pub recheckParts : Form → Split → Result (List ℕ)
+recheckParts form s = recheck form (s .front) (splitNext (s .back) .front) (splitNext (s .back) .back) lent
 
--- the program recheck: "old table, a line `next`, new table, `next`, old listing"
-unfoldable pub recheckProgram : List ℕ → List ℕ
-recheckProgram input = printed (recheckParts (splitNext input))
+-- the programs recheck and recheck_numbered: "old table, a line `next`, new table, `next`, old listing"
+unfoldable pub recheckProgram : Form → List ℕ → List ℕ
+recheckProgram form input = printed (recheckParts form (splitNext input))

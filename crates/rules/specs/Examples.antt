@@ -18,6 +18,7 @@ use Rattle.rules.specs.Members.{factor-shared-from-intersection, negate-
 use Rattle.rules.specs.Canonicalizer.{expand-bounds, expand-bounds-empty-fallback, canonicalize-inner, interRest, interRetry, interRule}
 use Rattle.rules.specs.Canonicalizer.{unionRule, rule, entered, visit, pass, canonicalize, firstPass, answerOf}
 use Rattle.rules.specs.Listing.{walk, nodeText, rootText, listingText}
+use Rattle.rules.specs.declared.Form.the-variants.{Plain}
 use Rattle.rules.specs.Calls.{canon, canonProgram}
 
 pub record Example : Type 0 where
@@ -210,7 +211,7 @@ examples =
     }
     ∷ []
 
-worked : map (λ (e : Example). canonProgram (e .table)) examples ≡ map (λ (e : Example). e .listing) examples
+worked : map (λ (e : Example). canonProgram Plain (e .table)) examples ≡ map (λ (e : Example). e .listing) examples
 unfolding pieces digit number decimal hex escaped name fieldOf rowOf rowTexts fieldText sectionOf attrAt entryOf step inTable sectionsOf tableOf
     representatives store limit order sort is-subtype-of flatten-composite are-shapes-disjoint are-output-types-disjoint is-output-subtype-or-equal
     remove-tautological-pairs absorb-subsumed-union-members merge-attrset-intersection remove-redundant-negations has-type-contradiction

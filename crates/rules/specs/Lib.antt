@@ -6,6 +6,7 @@ pub mod Types
 pub mod Order
 pub mod Members
 pub mod Canonicalizer
+pub mod Variables
 pub mod Listing
 pub mod Calls
 pub mod Chains

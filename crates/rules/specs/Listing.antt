@@ -4,7 +4,7 @@ use Prim.Native.Nat.{ℕ, zero, suc}
 use mathlib.Core.List.{List, [], _∷_, _++_, map, foldl}
 use lib.ListN.{length}
 use lib.Dec.{eqb, ltb, leb}
-use Rattle.cells.specs.Part.{if, cell, part}
+use Rattle.cells.specs.Part.{if, cell, part, eqList}
 use Rattle.rules.specs.Plain.{ascii, contains, joined, both, flag, position}
 use Rattle.rules.specs.Ceilings.{mostText, mostMembers, mostNodes}
 use Rattle.rules.specs.Text.{tab, lineFeed, pieces, number, decimal, Kind, byWord, rowOf, rowTexts, lineText, aNumber, aFlag, aSign}
@@ -13,6 +13,9 @@ use Rattle.rules.specs.Types.{Node, TyVar, Primitive, ListOf, Lambda, At
 use Rattle.rules.specs.Types.{tyVarKind, primitiveKind, listKind, lambdaKind, attrSetKind, unionKind, intersectionKind, namedKind, negKind}
 use Rattle.rules.specs.Types.{bottomKind, encode, children, members, asAttr, nodeAt, polarityOf}
 use Rattle.rules.specs.Canonicalizer.{Answer, shown, refusedWith, answerOf}
+use Rattle.rules.specs.Variables.{answerIn}
+use Rattle.rules.specs.declared.Form.{Form}
+use Rattle.rules.specs.declared.Form.the-variants.{Plain, Numbered}
 use mathlib.Core.Option.{Option, none, some}
 
 -- the lines of a listing that are no nodes, by number
@@ -106,18 +109,23 @@ answerText id s (shown a) =
     ++ nodeTexts (a .nodes) (walk (a .nodes) (a .root)) 0 (walk (a .nodes) (a .root))
 
 -- the lines of a root, s its sign (0 for +)
-unfoldable pub rootText : Table → ℕ → ℕ → List ℕ
-rootText t id s = answerText id s (answerOf t id (polarityOf s))
+unfoldable pub rootText : Form → Table → ℕ → ℕ → List ℕ
+rootText form t id s = answerText id s (answerIn form (answerOf t id (polarityOf s)))
 
-abbrev pub rootTextOf : Table → Root → List ℕ
-rootTextOf t root = rootText t (root .id) (root .sign)
+abbrev pub rootTextOf : Form → Table → Root → List ℕ
+rootTextOf form t root = rootText form t (root .id) (root .sign)
+
+-- request 1 of document 02: "A header line `numbered` follows `answers`"
+abbrev pub numberedText : Form → List ℕ
+numberedText Plain = []
+numberedText Numbered = lineText (ascii "numbered" ∷ [])
 
 -- "First line `answers`, root count"
-abbrev pub answersText : ℕ → List ℕ
-answersText n = headText (answersHead ∷ n ∷ [])
+abbrev pub answersText : Form → ℕ → List ℕ
+answersText form n = headText (answersHead ∷ n ∷ []) ++ numberedText form
 
-unfoldable pub listingText : Table → List ℕ
-listingText t = answersText (length (t .roots)) ++ joined (map (rootTextOf t) (t .roots))
+unfoldable pub listingText : Form → Table → List ℕ
+listingText form t = answersText form (length (t .roots)) ++ joined (map (rootTextOf form t) (t .roots))
 
 -- a row of a node line, as the node that it says
 unfoldable pub nodeOf : List ℕ → Node
@@ -229,11 +237,18 @@ abbrev pub isAnswers : ℕ → Option (List ℕ) → Bool
 isAnswers n none = false
 isAnswers n (some row) = both (eqb (cell row 0) answersHead) (λ _. eqb (cell row countWord) n)
 
+-- request 1: line 2 of a numbered listing is `numbered`, "11 for that mixture, at the header's line". In a plain listing that line is a root's,
+-- or one too many
+abbrev pub takeNumbered : Form → Taking → Result Taking
+takeNumbered Plain c = accepted c
+takeNumbered Numbered c =
+    nextLine (c .line) (c .rest) (λ l ls. if (eqList l (ascii "numbered")) (λ _. accepted (takeLine c l ls)) (λ _. refused 11 (c .line)))
+
 -- each root's lines in an old listing, or 11 with the earliest line at fault; "at most 65,536 bytes (else 11, line 0)"
-unfoldable pub oldListing : ℕ → List Root → List ℕ → Result (List (List ℕ))
-oldListing names roots text =
+unfoldable pub oldListing : Form → ℕ → List Root → List ℕ → Result (List (List ℕ))
+oldListing form names roots text =
     if (ltb mostText (length text)) (λ _. refused 11 0)
     (λ _. nextLine 1 (pieces lineFeed text)
     (λ l ls. if (isAnswers (length roots) (rowOf headKinds l))
-    (λ _. takeRoots names roots (record { text = []; line = 2; rest = ls }))
+    (λ _. then (takeNumbered form (record { text = []; line = 2; rest = ls })) (λ (c : Taking). takeRoots names roots c))
     (λ _. refused 11 1)))

@@ -2,6 +2,12 @@
 ghost use mathlib.Core.Path.{_≡_};
 ghost use Rattle.rules.specs.Types as types;
 
+// How a listing shows its variables: by the numbers that the table gives them, or numbered for each root from 0 on.
+pub enum Form {
+    Plain,
+    Numbered,
+}
+
 pub enum Polarity {
     Positive,
     Negative,

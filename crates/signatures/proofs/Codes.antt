@@ -13,6 +13,7 @@ use Rattle.rules.specs.Calls.{Left}
 use Rattle.outcomes.specs.Outcomes.{outcomeOf, Says}
 use Rattle.outcomes.specs.declared.Outcome.{Outcome}
 use Rattle.outcomes.specs.declared.Outcome.the-variants.{Written, Refused}
+use Rattle.rules.specs.declared.Form.{Form}
 use Rattle.canon_call.specs.Called.{Canon, CanonRoot}
 use Rattle.recheck_call.specs.Rechecked.{Rechecked}
 use Rattle.signatures.specs.Exports.{upper, codeOf, toldBy, Numbered, Code, Exported}
@@ -51,18 +52,18 @@ exported : {P : Outcome → Type 0} {r : Outcome} {c : ℕ} → P r → Given r 
 exported {P} {r} p z k = record { promised = subst P (sym (ap toldBy (k .is) ∙ code-told r (k .numbered) z)) p }
 
 module _ (text out : List ℕ) {draft table arena work out′ draft′ table′ arena′ work′ : List ℕ} {r : Outcome} {c : ℕ} where
-  pub canon-exported : Canon text out draft table arena work out′ draft′ table′ arena′ work′ r → Code r c
-      → Exported (Canon text out draft table arena work out′ draft′ table′ arena′ work′) c
-  canon-exported p k = exported p (said-not (p .says) (canon-not text out _)) k
+  pub canon-exported : (form : Form) → Canon form text out draft table arena work out′ draft′ table′ arena′ work′ r → Code r c
+      → Exported (Canon form text out draft table arena work out′ draft′ table′ arena′ work′) c
+  canon-exported form p k = exported p (said-not (p .says) (canon-not form text out _)) k
 
   pub canon-root-exported : (id sign : ℕ) → CanonRoot text id sign out draft table arena work out′ draft′ table′ arena′ work′ r → Code r c
       → Exported (CanonRoot text id sign out draft table arena work out′ draft′ table′ arena′ work′) c
   canon-root-exported id sign p k = exported p (said-not (p .says) (canon-root-not text id sign out _)) k
 
-pub recheck-exported : (oldText newText listing out : List ℕ) {draft old table arena work out′ draft′ old′ table′ arena′ work′ : List ℕ} {r : Outcome} {c : ℕ}
-    → Rechecked oldText newText listing out draft old table arena work out′ draft′ old′ table′ arena′ work′ r → Code r c
-    → Exported (Rechecked oldText newText listing out draft old table arena work out′ draft′ old′ table′ arena′ work′) c
-recheck-exported oldText newText listing out p k = exported p (said-not (p .called .says) (recheck-not oldText newText listing out _)) k
+pub recheck-exported : (form : Form) (oldText newText listing out : List ℕ) {draft old table arena work out′ draft′ old′ table′ arena′ work′ : List ℕ} {r : Outcome} {c : ℕ}
+    → Rechecked form oldText newText listing out draft old table arena work out′ draft′ old′ table′ arena′ work′ r → Code r c
+    → Exported (Rechecked form oldText newText listing out draft old table arena work out′ draft′ old′ table′ arena′ work′) c
+recheck-exported form oldText newText listing out p k = exported p (said-not (p .called .says) (recheck-not form oldText newText listing out _)) k
 
 -- each way out of `code`
 module _ {r : Outcome} where

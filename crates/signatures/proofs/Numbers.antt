@@ -6,14 +6,17 @@ use mathlib.Core.List.{List, [], _∷_}
 use mathlib.Core.Option.{Option, none, some}
 use lib.ListN.{length}
 use lib.Dec.{eqb, ltb}
-use Rattle.cells.specs.Part.{cell}
+use Rattle.cells.specs.Part.{cell, eqList}
+use Rattle.rules.specs.Plain.{ascii}
 use Rattle.cells.proofs.Choices.{by-branch}
 use Rattle.rules.specs.Ceilings.{mostText}
 use Rattle.rules.specs.Text.{lineFeed, pieces, rowOf}
 use Rattle.rules.specs.Table.{Root, Sections, Reading, nothing, Admission, admitted, fault, inOrder, over, add, ascends, frozenEntry, admit}
 use Rattle.rules.specs.Table.{sectionOf, inForm, step, kinds, Result, accepted, refused, then, atLine, begun, lines, known, entryLine, rootLine, inTable}
 use Rattle.rules.specs.Table.{sectionsOf, tableOf}
-use Rattle.rules.specs.Listing.{headKinds, listingText, rootText, Taking, nextLine, takeLine, takeNode, takeNodes, nodeInForm, nodesAfter}
+use Rattle.rules.specs.declared.Form.{Form}
+use Rattle.rules.specs.declared.Form.the-variants.{Plain, Numbered}
+use Rattle.rules.specs.Listing.{takeNumbered, headKinds, listingText, rootText, Taking, nextLine, takeLine, takeNode, takeNodes, nodeInForm, nodesAfter}
 use Rattle.rules.specs.Listing.{takeAfter, takeRoot, blank, atEnd, takeRoots, isAnswers, oldListing}
 use Rattle.rules.specs.Calls.{fits, canon, canonRoot, comparable, recheckText, recheck, leaves, unlessShort, canonCall, canonRootCall, recheckCall}
 
@@ -90,16 +93,16 @@ left-not out (refused k l) h = h
 call-not : (out : List ℕ) (short : Bool) (x : Result (List ℕ)) → NotZero x → NotZero (leaves out (unlessShort short x) .outcome)
 call-not out short x h = left-not out (unlessShort short x) (by-branch NotZero short _ _ (omega arith) h)
 
-pub canon-not : (text out : List ℕ) (short : Bool) → NotZero (canonCall text out short .outcome)
+pub canon-not : (form : Form) (text out : List ℕ) (short : Bool) → NotZero (canonCall form text out short .outcome)
 unfolding canon canonCall
-canon-not text out short = call-not out short _ (then-not (tableOf text) _ (table-not text) (λ t. fits-not (length out) (listingText t)))
+canon-not form text out short = call-not out short _ (then-not (tableOf text) _ (table-not text) (λ t. fits-not (length out) (listingText form t)))
 
 pub canon-root-not : (text : List ℕ) (id s : ℕ) (out : List ℕ) (short : Bool) → NotZero (canonRootCall text id s out short .outcome)
 unfolding canonRoot canonRootCall
 canon-root-not text id s out short =
     call-not out short _
     (then-not (tableOf text) _ (table-not text)
-    (λ t. by-branch NotZero (ltb id (length (t .entries))) _ _ (fits-not (length out) (rootText t id s)) (omega arith)))
+    (λ t. by-branch NotZero (ltb id (length (t .entries))) _ _ (fits-not (length out) (rootText Plain t id s)) (omega arith)))
 
 -- an old listing is refused with 11
 next-not : {A : Type 0} (k : ℕ) (ls : List (List ℕ)) (f : List ℕ → List (List ℕ) → Result A) → ((l : List ℕ) (m : List (List ℕ)) → NotZero (f l m))
@@ -133,20 +136,25 @@ module _ (names : ℕ) where
   roots-not [] c = end-not (c .line) (c .rest)
   roots-not (r ∷ rs) c = then-not (takeRoot names r (blank c)) _ (root-not r (blank c)) (λ d. then-not (takeRoots names rs d) _ (roots-not rs d) (λ ts. tt))
 
-  old-not : (roots : List Root) (text : List ℕ) → NotZero (oldListing names roots text)
+  numbered-not : (form : Form) (c : Taking) → NotZero (takeNumbered form c)
+  numbered-not Plain c = tt
+  numbered-not Numbered c = next-not (c .line) (c .rest) _ (λ l ls. by-branch NotZero (eqList l (ascii "numbered")) _ _ tt (omega arith))
+
+  old-not : (form : Form) (roots : List Root) (text : List ℕ) → NotZero (oldListing form names roots text)
   unfolding oldListing
-  old-not roots text =
+  old-not form roots text =
       by-branch NotZero (ltb mostText (length text)) _ _ (omega arith)
       (next-not 1 (pieces lineFeed text) _
-      (λ l ls. by-branch NotZero (isAnswers (length roots) (rowOf headKinds l)) _ _ (roots-not roots _) (omega arith)))
+      (λ l ls. by-branch NotZero (isAnswers (length roots) (rowOf headKinds l)) _ _
+      (then-not (takeNumbered form _) _ (numbered-not form _) (λ c. roots-not roots c)) (omega arith)))
 
-pub recheck-not : (old new listing out : List ℕ) (short : Bool) → NotZero (recheckCall old new listing out short .outcome)
+pub recheck-not : (form : Form) (old new listing out : List ℕ) (short : Bool) → NotZero (recheckCall form old new listing out short .outcome)
 unfolding recheck recheckCall
-recheck-not old new listing out short =
+recheck-not form old new listing out short =
     call-not out short _
     (then-not (tableOf old) _ (table-not old)
     (λ t. then-not (tableOf new) _ (table-not new)
     (λ u. by-branch NotZero (comparable t u) _ _
-    (then-not (oldListing (length (u .names)) (u .roots) listing) _ (old-not (length (u .names)) (u .roots) listing)
-    (λ texts. fits-not (length out) (recheckText t u texts)))
+    (then-not (oldListing form (length (u .names)) (u .roots) listing) _ (old-not (length (u .names)) form (u .roots) listing)
+    (λ texts. fits-not (length out) (recheckText form t u texts)))
     (omega arith))))

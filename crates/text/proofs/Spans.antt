@@ -4,8 +4,8 @@ use Prim.Native.Nat.{ℕ, zero, suc, _+_, _-_, _≤_, _<_}
 use native.Mathlib.Omega.{arith}
 use native.Mathlib.Numerals.{add-one}
 use mathlib.Core.List.{List, [], _∷_, _++_}
-use lib.ListN.{length, set, length-set}
-use lib.Seq.{getD-set-other}
+use lib.ListN.{length, set, take, drop, length-set}
+use lib.Seq.{getD-set-other, drop-cons}
 use Rattle.cells.specs.Part.{run, cell, part}
 use Rattle.cells.proofs.Parts.{run-at, run-length, run-snoc, run-ext, part-set-snoc}
 use Rattle.text.specs.Reads.{span, Above}
@@ -103,3 +103,9 @@ span-two w top u v l =
     ap (span (set (set w top u) (top + 1) v) top) (omega arith)
     ∙ span-set (set w top u) top (top + 1) v (omega arith) (omega arith)
     ∙ ap (λ (x : List ℕ). x ++ (v ∷ [])) (span-one w top u (omega arith))
+
+-- a part of a slice, as the code takes it
+pub part-taken : (s : List ℕ) (a n : ℕ) → a + n ≤ length s → take n (drop a s) ≡ part s a n
+part-taken s a zero h = refl
+part-taken s a (suc n) h =
+    ap (take (suc n)) (drop-cons s a 0 (omega arith)) ∙ ap (λ (l : List ℕ). cell s a ∷ l) (part-taken s (suc a) n (omega arith))

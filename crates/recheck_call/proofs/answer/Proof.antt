@@ -44,7 +44,7 @@ same-length-6 c =
     let low = mid .before .before .before .before .before .before .before .before .before .before .before .before .before .before in
     let compare-both = c .before .before .before .before .before .before .before .before .before .before .before .before .compare-both in
     let read = low .before .before .before .before .before .before .before .read in
-    compare-both .kept .1 .1 .1 .0 ∙ read .kept .1 .0
+    compare-both .kept .1 .1 .1 .1 .0 ∙ read .kept .1 .0
 
 same-length-7 : tie.Need-same-length-7
 same-length-7 c =
@@ -52,7 +52,7 @@ same-length-7 c =
     let compare-both = c .before .before .before .before .before .before .before .before .before .before .before .before .compare-both in
     let read2 = mid .before .before .before .before .before .before .before .before .before .before .read2 in
     let clear = mid .before .before .before .before .before .before .before .before .before .before .before .before .before .before .clear in
-    compare-both .kept .1 .1 .1 .1 .1 .0 ∙ read2 .kept .1 .0 ∙ clear .kept .0
+    compare-both .kept .1 .1 .1 .1 .1 .1 .0 ∙ read2 .kept .1 .0 ∙ clear .kept .0
 
 returns-5 : tie.Need-returns-5
 returns-5 c =

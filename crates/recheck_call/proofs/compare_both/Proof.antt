@@ -19,7 +19,7 @@ same-length-8 c =
     let low = mid .before .before .before .before .before .before .before .before .before .before .before .before .before .before in
     let flag-redone = mid .before .before .before .before .before .before .before .flag-redone in
     let read-old = low .before .before .before .before .before .before .before .before .read-old in
-    flag-redone .kept .0 ∙ read-old .kept .1 .0
+    flag-redone .kept .0 ∙ read-old .kept .1 .1 .0
 
 same-length-9 : tie.Need-same-length-9
 same-length-9 c =
@@ -34,7 +34,7 @@ same-length-10 c =
     let low = mid .before .before .before .before .before .before .before .before .before .before .before .before .before .before in
     let deliver = c .before .before .before .before .before .before .before .before .before .before .deliver in
     let read-old = low .before .before .before .before .before .before .before .before .read-old in
-    deliver .kept .1 .1 .1 .1 .1 .1 .0 ∙ read-old .kept .1 .1 .1 .0
+    deliver .kept .1 .1 .1 .1 .1 .1 .0 ∙ read-old .kept .1 .1 .1 .1 .0
 
 same-length-11 : tie.Need-same-length-11
 same-length-11 c =
@@ -59,7 +59,7 @@ returns-3 c =
     let flag-redone = mid .before .before .before .before .before .before .before .flag-redone in
     let deliver = c .before .before .before .before .before .before .before .before .before .before .deliver in
     listed-both (comparable .ensures) (if1 .left) (number .ensures) (first-root .ensures) (number2 .ensures) (read-old .ensures) (enum-told .given .1)
-    (read-old .kept .1 .0) (read-old .kept .1 .1 .1 .0)
+    (read-old .kept .1 .1 .0) (read-old .kept .1 .1 .1 .1 .0)
     (flagged (prepare .ensures) (prepare .kept .0) (flag-redone .ensures) (flag-redone .kept .1 .1 .0) (deliver .ensures))
 
 pub compare-both-spec : {M : Type 1} → statement M

@@ -9,12 +9,12 @@ use Rattle.answers.proofs.mixed.write_roots.Statement.{statement}
 use Rattle.answers.proofs.mixed.write_roots.Tie as tie
 
 abbrev Inv-loop : tie.InvT-loop
-Inv-loop listing out₀ old mixed table₀ g arena₀ work₀ at n p₀ i₀ out table arena work p i =
+Inv-loop listing out₀ old mixed table₀ g arena₀ work₀ form at n p₀ i₀ out table arena work p i =
     (n ≡ g .roots) × (n ≤ 4294967295) × (length out ≡ length out₀) × (length table ≡ length table₀)
-    × Listing listing old mixed g table₀ arena₀ work₀ out₀ table arena work out p₀ p n i
+    × Listing listing old mixed form g table₀ arena₀ work₀ out₀ table arena work out p₀ p n i
 
 abbrev μ-loop : tie.MeasureT-loop
-μ-loop listing out₀ old mixed table₀ g arena₀ work₀ at n p₀ i₀ out table arena work p i = n - i
+μ-loop listing out₀ old mixed table₀ g arena₀ work₀ form at n p₀ i₀ out table arena work p i = n - i
 
 loop-holds : tie.Need-loop-holds Inv-loop μ-loop
 loop-holds c = (refl, omega arith, refl, refl, listing-start)

@@ -7,4 +7,6 @@ returns : tie.Need-returns
 returns c = search answers-is
 
 pub answers-spec : {M : Type 1} → statement M
-answers-spec = tie.close (tie.spec (λ c. search needs) (λ c _. search needs) (λ c _. search needs) (λ c _. search needs) (λ c. search needs) returns)
+answers-spec =
+    tie.close
+    (tie.spec (λ c. search needs) (λ c _. search needs) (λ c _. search needs) (λ c _. search needs) (λ c _. search needs) (λ c. search needs) returns)

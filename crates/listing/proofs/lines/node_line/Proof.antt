@@ -18,5 +18,6 @@ node-line-spec =
     (λ c _. search needs)
     (λ c _. search needs)
     (λ c _. search needs)
+    (λ c _. search needs)
     (λ c. search needs)
     returns)

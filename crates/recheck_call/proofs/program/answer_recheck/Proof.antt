@@ -8,15 +8,15 @@ returns : tie.Need-returns
 returns c =
     let mid = c .before .before .before .before .before .before .before .before .before .before .before .before .before .before in
     let shown = c .before .before .shown in
-    let recheck = c .before .before .before .before .before .before .before .before .before .before .before .recheck in
+    let recheck-in = c .before .before .before .before .before .before .before .before .before .before .before .recheck-in in
     let work-room = mid .before .before .before .before .work-room in
     let line-room = mid .before .before .before .before .before .line-room in
     let table-room2 = mid .before .before .before .before .before .before .table-room2 in
     let table-room = mid .before .before .before .before .before .before .before .table-room in
     let draft-room = mid .before .before .before .before .before .before .before .before .draft-room in
     let args = mid .before .before .before .before .before .before .before .before .before .before .before .before .before .args in
-    recheck-shown (args .old .now) (args .new .now) (args .listing .now) (args .out .now) (draft-room .ensures) (table-room .ensures)
-    (table-room2 .ensures) (line-room .ensures) (work-room .ensures) (recheck .ensures) (recheck .kept .1 .1 .1 .0) (shown .ensures)
+    recheck-shown (args .form) (args .old .now) (args .new .now) (args .listing .now) (args .out .now) (draft-room .ensures) (table-room .ensures)
+    (table-room2 .ensures) (line-room .ensures) (work-room .ensures) (recheck-in .ensures) (recheck-in .kept .1 .1 .1 .1 .0) (shown .ensures)
 
 pub answer-recheck-spec : {M : Type 1} → statement M
 answer-recheck-spec =

@@ -1,8 +1,8 @@
 use mathlib.Core.Path.{refl}
 use Rattle.rules.specs.Calls.{canonCall}
 use borrow.Author.Needs.{needs}
-use Rattle.canon_call.proofs.canon.Statement.{statement}
-use Rattle.canon_call.proofs.canon.Tie as tie
+use Rattle.canon_call.proofs.canon_in.Statement.{statement}
+use Rattle.canon_call.proofs.canon_in.Tie as tie
 
 returns : tie.Need-returns
 unfolding canonCall
@@ -10,8 +10,8 @@ returns c =
     let call = c .before .before .before .before .before .before .before .before .before .before .call in
     call .ensures .is _ refl
 
-pub canon-spec : {M : Type 1} → statement M
-canon-spec =
+pub canon-in-spec : {M : Type 1} → statement M
+canon-in-spec =
     tie.close
     (tie.spec
     (λ c _. search needs)
