@@ -1,14 +1,14 @@
 //! The calls with scratch of their own.
 
 use crate::lengths;
-use crate::listing::Sign;
+use crate::listing::{Form, Sign};
 use crate::raw::{self, Outcome};
 use crate::refusal::{Part, Refusal};
 
 /// The output that is lent at first; it grows where a text is longer.
 const OUTPUT: usize = 65_536;
 
-/// The three calls and what is lent to them. A thread that calls needs 2 MiB of
+/// The calls and what is lent to them. A thread that calls needs 2 MiB of
 /// stack.
 pub struct Calls {
     out: Vec<u8>,
@@ -53,7 +53,17 @@ impl Calls {
 
     /// The listing of a table.
     pub fn canon(&mut self, table: &[u8]) -> Result<String, Refusal> {
-        let text = self.text(|calls| calls.canon_once(table));
+        self.canon_in(Form::Plain, table)
+    }
+
+    /// The numbered listing of a table.
+    pub fn canon_numbered(&mut self, table: &[u8]) -> Result<String, Refusal> {
+        self.canon_in(Form::Numbered, table)
+    }
+
+    /// The listing of a table in this form.
+    pub fn canon_in(&mut self, form: Form, table: &[u8]) -> Result<String, Refusal> {
+        let text = self.text(|calls| calls.canon_once(form, table));
         text.map_err(|refused| refused.of(Part::Table))
     }
 
@@ -70,11 +80,32 @@ impl Calls {
         new: &[u8],
         listing: &[u8],
     ) -> Result<Rechecked, Refusal> {
-        match self.text(|calls| calls.recheck_once(old, new, listing)) {
+        self.recheck_in(Form::Plain, old, new, listing)
+    }
+
+    /// The same with a numbered listing before and after.
+    pub fn recheck_numbered(
+        &mut self,
+        old: &[u8],
+        new: &[u8],
+        listing: &[u8],
+    ) -> Result<Rechecked, Refusal> {
+        self.recheck_in(Form::Numbered, old, new, listing)
+    }
+
+    /// The same with a listing in this form before and after.
+    pub fn recheck_in(
+        &mut self,
+        form: Form,
+        old: &[u8],
+        new: &[u8],
+        listing: &[u8],
+    ) -> Result<Rechecked, Refusal> {
+        match self.text(|calls| calls.recheck_once(form, old, new, listing)) {
             Ok(text) => Ok(Rechecked::read(&text)),
             Err(refused) => Err(refused.of(match refused.number {
                 10 => Part::Tables,
-                11 => Part::OldListing,
+                11 => refused.in_listing(form, listing),
                 _ if self.accepts(old) => Part::NewTable,
                 _ => Part::OldTable,
             })),
@@ -87,8 +118,9 @@ impl Calls {
         outcome == Outcome::Refused { number: 3, line: 0 }
     }
 
-    fn canon_once(&mut self, table: &[u8]) -> Outcome {
+    fn canon_once(&mut self, form: Form, table: &[u8]) -> Outcome {
         raw::canon(
+            form,
             table,
             &mut self.out,
             &mut self.draft,
@@ -111,8 +143,9 @@ impl Calls {
         )
     }
 
-    fn recheck_once(&mut self, old: &[u8], new: &[u8], listing: &[u8]) -> Outcome {
+    fn recheck_once(&mut self, form: Form, old: &[u8], new: &[u8], listing: &[u8]) -> Outcome {
         raw::recheck(
+            form,
             old,
             new,
             listing,
@@ -158,6 +191,15 @@ struct Refused {
 }
 
 impl Refused {
+    /// The old listing, which may be of another form than was asked for: that
+    /// is a fault of its second line.
+    fn in_listing(&self, asked: Form, listing: &[u8]) -> Part {
+        match Form::told(listing) {
+            Some(form) if form != asked && self.line == 2 => Part::ListingIn(form),
+            _ => Part::OldListing,
+        }
+    }
+
     fn of(&self, part: Part) -> Refusal {
         Refusal {
             number: self.number,

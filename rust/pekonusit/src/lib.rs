@@ -1,6 +1,6 @@
 //! Pekonusit's proved calls from Rust: `canon`, `canon_root` and `recheck` over
-//! byte slices, with scratch of their own; a listing as typed values; and a
-//! root's type as a person reads it.
+//! byte slices, with scratch of their own, `canon` and `recheck` in both forms of
+//! a listing; a listing as typed values; and a root's type as a person reads it.
 //!
 //! ```no_run
 //! use pekonusit::{Calls, Listing, Names, View};
@@ -26,6 +26,6 @@ mod refusal;
 mod signature;
 
 pub use calls::{Calls, Done, Rechecked};
-pub use listing::{Answer, Listing, Node, NotInForm, Root, Set, Shown, Sign};
+pub use listing::{Answer, Form, Listing, Node, NotInForm, Root, Set, Shown, Sign};
 pub use refusal::{limit_words, Part, Refusal};
 pub use signature::{Names, View};

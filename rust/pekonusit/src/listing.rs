@@ -6,7 +6,18 @@ use std::fmt;
 /// The roots of a listing, in the order of the table.
 #[derive(Clone, Debug, PartialEq, Eq)]
 pub struct Listing {
+    pub form: Form,
     pub roots: Vec<Root>,
+}
+
+/// The numbers that a listing has for variables.
+#[derive(Clone, Copy, Debug, PartialEq, Eq)]
+pub enum Form {
+    /// Those of the table.
+    Plain,
+    /// 0, 1, 2 and so on in each root, in the order of first appearance. The
+    /// second line says `numbered`.
+    Numbered,
 }
 
 #[derive(Clone, Debug, PartialEq, Eq)]
@@ -81,6 +92,21 @@ impl fmt::Display for NotInForm {
 
 impl Error for NotInForm {}
 
+impl Form {
+    /// What a listing's second line tells: it is `numbered`, or it is a root's,
+    /// or there is none since there are no roots.
+    pub(crate) fn told(listing: &[u8]) -> Option<Form> {
+        let end = listing.iter().position(|byte| *byte == b'\n')? + 1;
+        let (first, rest) = listing.split_at(end);
+        let of_root = rest.starts_with(b"root\t") || rest.starts_with(b"refused\t");
+        let without_roots = first == b"answers\t0\n" && rest.is_empty();
+        match rest.starts_with(NUMBERED) {
+            true => Some(Form::Numbered),
+            false => (of_root || without_roots).then_some(Form::Plain),
+        }
+    }
+}
+
 impl Sign {
     /// As canon_root takes it.
     pub(crate) fn number(self) -> u32 {
@@ -120,6 +146,9 @@ impl Listing {
     }
 }
 
+/// The second line of a numbered listing.
+const NUMBERED: &[u8] = b"numbered\n";
+
 /// The most nodes of a root, and members of a list.
 const NODES: usize = 4096;
 const MEMBERS: usize = 128;
@@ -145,13 +174,29 @@ impl<'a> Lines<'a> {
             return None;
         };
         let count = number(count)?;
+        let form = self.form();
         let roots: Option<Vec<Root>> = (0..count).map(|_| self.root()).collect();
-        let listing = Listing { roots: roots? };
+        let listing = Listing {
+            form,
+            roots: roots?,
+        };
         if !self.text.is_empty() {
             self.count += 1;
             return None;
         }
         Some(listing)
+    }
+
+    /// The form that the second line tells, which is read if it is `numbered`.
+    fn form(&mut self) -> Form {
+        match self.text.strip_prefix(NUMBERED) {
+            Some(rest) => {
+                self.text = rest;
+                self.count += 1;
+                Form::Numbered
+            }
+            None => Form::Plain,
+        }
     }
 
     fn root(&mut self) -> Option<Root> {
@@ -318,7 +363,14 @@ mod tests {
             sign: Sign::Output,
             answer: Answer::Shown(shown),
         };
-        assert_eq!(listing, Listing { roots: vec![root] });
+        let roots = vec![root];
+        assert_eq!(
+            listing,
+            Listing {
+                form: Form::Plain,
+                roots
+            }
+        );
     }
 
     #[test]
@@ -374,6 +426,50 @@ mod tests {
         }
         assert_eq!(fault(""), Some(1));
         assert_eq!(fault(TALK_SHOW), None);
+    }
+
+    /// The same with the line `numbered`.
+    fn numbered(listing: &str) -> String {
+        listing.replacen('\n', "\nnumbered\n", 1)
+    }
+
+    #[test]
+    fn a_numbered_listing_is_read() {
+        let plain = Listing::read(TALK_SHOW.as_bytes()).unwrap();
+        let listing = Listing::read(numbered(TALK_SHOW).as_bytes()).unwrap();
+        assert_eq!((listing.form, listing.roots), (Form::Numbered, plain.roots));
+        let none = Listing::read(b"answers\t0\nnumbered\n").unwrap();
+        assert_eq!((none.form, none.roots.len()), (Form::Numbered, 0));
+    }
+
+    #[test]
+    fn a_fault_of_a_numbered_listing_has_its_line() {
+        let text = numbered(TALK_SHOW);
+        assert_eq!(fault(&text), None);
+        assert_eq!(fault(&numbered(&text)), Some(3));
+        assert_eq!(fault(&text.replace("numbered", "numbered\t")), Some(2));
+        assert_eq!(fault(&text.replace("prim\t0", "prim\t32")), Some(4));
+        assert_eq!(fault(&format!("{text}numbered\n")), Some(8));
+        assert_eq!(fault("answers\t0\nnumbered"), Some(2));
+    }
+
+    #[test]
+    fn the_second_line_tells_the_form() {
+        let told = |text: &str| Form::told(text.as_bytes());
+        for text in [TALK_SHOW, "answers\t0\n", "answers\t1\nrefused\t5\t+\t6\n"] {
+            assert_eq!(told(text), Some(Form::Plain));
+            assert_eq!(told(&numbered(text)), Some(Form::Numbered));
+        }
+        let neither = [
+            "",
+            "answers\t1",
+            "answers\t1\n",
+            "answers\t1\nnumbered",
+            "answers\t1\n\n",
+        ];
+        for text in neither {
+            assert_eq!(told(text), None, "{text}");
+        }
     }
 
     #[test]

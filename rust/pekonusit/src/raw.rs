@@ -1,8 +1,17 @@
-//! The three exports of the archive, over slices of any length. This is the
-//! only place with pointers.
+//! The exports of the archive, over slices of any length. This is the only place
+//! with pointers.
 
-extern "C" {
-    fn pekonusit_canon(
+use crate::listing::Form;
+
+/// Declares exports that take the same.
+macro_rules! exports {
+    ($($name:ident),+: $arguments:tt) => {
+        extern "C" { $(fn $name $arguments -> u64;)+ }
+    };
+}
+
+exports!(
+    pekonusit_canon, pekonusit_canon_numbered: (
         text: *const u8,
         text_len: usize,
         out: *mut u8,
@@ -15,9 +24,11 @@ extern "C" {
         arena_len: usize,
         work: *mut u32,
         work_len: usize,
-    ) -> u64;
+    )
+);
 
-    fn pekonusit_canon_root(
+exports!(
+    pekonusit_canon_root: (
         text: *const u8,
         text_len: usize,
         id: u32,
@@ -32,9 +43,11 @@ extern "C" {
         arena_len: usize,
         work: *mut u32,
         work_len: usize,
-    ) -> u64;
+    )
+);
 
-    fn pekonusit_recheck(
+exports!(
+    pekonusit_recheck, pekonusit_recheck_numbered: (
         old_text: *const u8,
         old_text_len: usize,
         new_text: *const u8,
@@ -53,8 +66,8 @@ extern "C" {
         arena_len: usize,
         work: *mut u32,
         work_len: usize,
-    ) -> u64;
-}
+    )
+);
 
 /// What a call answers: so many bytes written, or a refusal.
 #[derive(Clone, Copy, Debug, PartialEq, Eq)]
@@ -74,9 +87,10 @@ impl Outcome {
     }
 }
 
-/// The listing of a table. A slice that is shorter than [`crate::lengths`]
-/// states is refused with 20.
+/// The listing of a table in this form. A slice that is shorter than
+/// [`crate::lengths`] states is refused with 20.
 pub fn canon(
+    form: Form,
     text: &[u8],
     out: &mut [u8],
     draft: &mut [u8],
@@ -84,10 +98,14 @@ pub fn canon(
     arena: &mut [u32],
     work: &mut [u32],
 ) -> Outcome {
+    let export = match form {
+        Form::Plain => pekonusit_canon,
+        Form::Numbered => pekonusit_canon_numbered,
+    };
     // SAFETY: each pointer goes with the length of the slice that it was made
     // of, no two of them share a cell, and the call is proved to stay in bounds.
     Outcome::new(unsafe {
-        pekonusit_canon(
+        export(
             text.as_ptr(),
             text.len(),
             out.as_mut_ptr(),
@@ -137,10 +155,11 @@ pub fn canon_root(
     })
 }
 
-/// The listing of the new table after a line of `kept` or `redone` for each
-/// root. Its arena is the longer one.
+/// The listing of the new table, in the form of the old one, after a line of
+/// `kept` or `redone` for each root. Its arena is the longer one.
 #[allow(clippy::too_many_arguments)] // as the export has them
 pub fn recheck(
+    form: Form,
     old_text: &[u8],
     new_text: &[u8],
     listing: &[u8],
@@ -151,9 +170,13 @@ pub fn recheck(
     arena: &mut [u32],
     work: &mut [u32],
 ) -> Outcome {
+    let export = match form {
+        Form::Plain => pekonusit_recheck,
+        Form::Numbered => pekonusit_recheck_numbered,
+    };
     // SAFETY: as above.
     Outcome::new(unsafe {
-        pekonusit_recheck(
+        export(
             old_text.as_ptr(),
             old_text.len(),
             new_text.as_ptr(),

@@ -3,6 +3,8 @@
 use std::error::Error;
 use std::fmt;
 
+use crate::listing::Form;
+
 /// The text that a refusal points into.
 #[derive(Clone, Copy, Debug, PartialEq, Eq)]
 pub enum Part {
@@ -13,6 +15,8 @@ pub enum Part {
     /// The old and the new table beside each other.
     Tables,
     OldListing,
+    /// An old listing of this form, where the other one was asked for.
+    ListingIn(Form),
 }
 
 impl fmt::Display for Part {
@@ -22,7 +26,7 @@ impl fmt::Display for Part {
             Part::OldTable => "the old table",
             Part::NewTable => "the new table",
             Part::Tables => "the tables",
-            Part::OldListing => "the old listing",
+            Part::OldListing | Part::ListingIn(_) => "the old listing",
         })
     }
 }
@@ -39,6 +43,9 @@ pub struct Refusal {
 impl Refusal {
     /// What the number says.
     pub fn words(&self) -> &'static str {
+        if let Part::ListingIn(form) = self.part {
+            return other_form_words(form);
+        }
         match (self.number, self.line) {
             (1, _) => "the line is not in form or not in its place, or the budget line is missing here",
             (2, 0) => "the text is longer than 65,536 bytes",
@@ -49,9 +56,11 @@ impl Refusal {
             (5, _) => "a frozen entry, which has no type to show",
             (10, _) => {
                 "the tables cannot be compared: the budget, the number of entries, or a name, pair, mark or root line differs; \
-                 the new table needs a listing afresh, by canon"
+                 the new table needs a listing afresh, by canon or canon_numbered"
             }
-            (11, 0) => "the old listing is longer than 65,536 bytes; the new table needs a listing afresh, by canon",
+            (11, 0) => {
+                "the old listing is longer than 65,536 bytes; the new table needs a listing afresh, by canon or canon_numbered"
+            }
             (11, _) => "the old listing is not in form here, or it is not for these roots in this order",
             (12, _) => "the text is longer than the lent output",
             (20, _) => "a lent scratch is shorter than stated",
@@ -81,6 +90,18 @@ impl fmt::Display for Refusal {
 }
 
 impl Error for Refusal {}
+
+/// What is to be done with an old listing of this form.
+fn other_form_words(form: Form) -> &'static str {
+    match form {
+        Form::Plain => {
+            "it is plain; recheck takes it, and canon_numbered makes a numbered one afresh"
+        }
+        Form::Numbered => {
+            "it is numbered; recheck_numbered takes it, and canon makes a plain one afresh"
+        }
+    }
+}
 
 /// What the number of a refused root says: the limit that it passed.
 pub fn limit_words(number: u32) -> &'static str {

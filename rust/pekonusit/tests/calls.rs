@@ -1,6 +1,6 @@
 //! The calls with the archive: answers, refusals and growth.
 
-use pekonusit::{Calls, Done, Listing, Names, Part, Refusal, Sign, View};
+use pekonusit::{Calls, Done, Form, Listing, Names, Part, Refusal, Sign, View};
 
 const TALK_SHOW: &[u8] = include_bytes!("../../../examples/talk-show.table");
 const TWO_SHOWS: &[u8] = include_bytes!("../../../examples/two-shows.table");
@@ -9,6 +9,22 @@ const LISTING: &[u8] = include_bytes!("../../../examples/two-shows.listing");
 
 const ANSWER: &str =
     "answers>1\nroot>5>+>1>9>0>0>4\n0>prim>0\n1>set>0:0,1:0>->1>-\n2>list>0\n3>fn>1>2\n";
+
+/// Two functions of two variables; the second has them the other way round.
+const VARIABLES: &str = "budget>99\nvar>->-\nvar>->-\nfn>1>0\nfn>0>2\nroot>3>+\nroot>2>-\n";
+const NUMBERED: &str = "answers>2\nnumbered\n\
+    root>3>+>2>10>0>0>4\n0>tyvar>0\n1>tyvar>1\n2>fn>1>0\n3>fn>0>2\n\
+    root>2>->1>3>0>0>3\n0>tyvar>0\n1>tyvar>1\n2>fn>0>1\n";
+
+const FORMS: [Form; 2] = [Form::Plain, Form::Numbered];
+
+/// A listing without variables, in this form.
+fn in_form(form: Form, listing: &str) -> String {
+    match form {
+        Form::Plain => listing.to_string(),
+        Form::Numbered => listing.replacen('\n', "\nnumbered\n", 1),
+    }
+}
 
 /// A text with `>` for each tab.
 fn tabs(text: &str) -> String {
@@ -26,6 +42,25 @@ fn the_talk_shows_exchange() {
     let listing = Listing::read(text.as_bytes()).unwrap();
     let signature = listing.roots[0].signature(&Names::read(TALK_SHOW), View::default());
     assert_eq!(signature, "{ actual : Int, planned : Int, .. } -> [Int]");
+}
+
+#[test]
+fn variables_are_numbered_in_each_root() {
+    let table = tabs(VARIABLES);
+    let mut calls = Calls::new();
+    let text = calls.canon_numbered(table.as_bytes()).unwrap();
+    assert_eq!(text, tabs(NUMBERED));
+    let plain = calls.canon(table.as_bytes()).unwrap();
+    let turned = NUMBERED.replace("3\n0>tyvar>0\n1>tyvar>1", "3\n0>tyvar>1\n1>tyvar>0");
+    assert_eq!(plain, tabs(&turned).replace("numbered\n", ""));
+    for text in [text, plain] {
+        let listing = Listing::read(text.as_bytes()).unwrap();
+        let signature = |i: usize| listing.roots[i].signature(&Names::default(), View::default());
+        assert_eq!(
+            (&signature(0)[..], &signature(1)[..]),
+            ("a -> b -> a", "a -> b")
+        );
+    }
 }
 
 #[test]
@@ -53,15 +88,30 @@ fn two_shows_rechecked() {
 }
 
 #[test]
+fn a_numbered_listing_rechecked() {
+    let (old, listing) = (tabs(VARIABLES), tabs(NUMBERED));
+    let new = old.replace("fn\t0\t2", "fn\t1\t2");
+    let mut calls = Calls::new();
+    let rechecked = calls.recheck_numbered(old.as_bytes(), new.as_bytes(), listing.as_bytes());
+    let rechecked = rechecked.unwrap();
+    assert_eq!(rechecked.done, [Done::Redone, Done::Kept]);
+    let afresh = calls.canon_numbered(new.as_bytes()).unwrap();
+    assert_ne!(afresh, listing);
+    assert_eq!(rechecked.listing, afresh);
+}
+
+#[test]
 fn a_table_without_roots() {
     let table = tabs("budget>1\nprim>0\n");
+    let table = table.as_bytes();
     let mut calls = Calls::new();
-    let rechecked = calls.recheck(table.as_bytes(), table.as_bytes(), b"answers\t0\n");
-    let rechecked = rechecked.unwrap();
-    assert_eq!(
-        (rechecked.done.len(), &rechecked.listing[..]),
-        (0, "answers\t0\n")
-    );
+    for form in FORMS {
+        let listing = in_form(form, "answers\t0\n");
+        assert_eq!(calls.canon_in(form, table).unwrap(), listing);
+        let rechecked = calls.recheck_in(form, table, table, listing.as_bytes());
+        let rechecked = rechecked.unwrap();
+        assert_eq!((rechecked.done.len(), rechecked.listing), (0, listing));
+    }
 }
 
 #[test]
@@ -120,6 +170,43 @@ fn a_refused_recheck_names_the_text_at_fault() {
     );
 }
 
+/// The form asked for, and that of the listing.
+const CROSSED: [(Form, Form); 2] = [(Form::Plain, Form::Numbered), (Form::Numbered, Form::Plain)];
+
+#[test]
+fn a_listing_in_the_other_form_is_refused() {
+    let empty = tabs("budget>1\nprim>0\n");
+    let variables = tabs(VARIABLES);
+    let mut calls = Calls::new();
+    for (asked, found) in CROSSED {
+        for table in [empty.as_bytes(), variables.as_bytes(), TWO_SHOWS] {
+            let listing = calls.canon_in(found, table).unwrap();
+            let refusal = calls.recheck_in(asked, table, table, listing.as_bytes());
+            let expected = refused(11, 2, Part::ListingIn(found));
+            assert_eq!(refusal.unwrap_err(), expected);
+        }
+    }
+}
+
+#[test]
+fn other_faults_of_a_listing_come_before_its_form() {
+    let mut calls = Calls::new();
+    let mut refusal = |asked, listing: &str| {
+        let answer = calls.recheck_in(asked, TWO_SHOWS, TWO_SHOWS, listing.as_bytes());
+        answer.unwrap_err()
+    };
+    let long = format!("answers\t2\nroot\t{}", "5".repeat(65_536));
+    for (asked, found) in CROSSED {
+        let first = in_form(found, "answers\t1\nrefused\t5\t+\t6\n");
+        assert_eq!(refusal(asked, &first), refused(11, 1, Part::OldListing));
+        let long = in_form(found, &long);
+        assert_eq!(refusal(asked, &long), refused(11, 0, Part::OldListing));
+        // Cut short before its form is told.
+        let cut = "answers\t2\n";
+        assert_eq!(refusal(asked, cut), refused(11, 2, Part::OldListing));
+    }
+}
+
 #[test]
 fn refusals_have_words() {
     let mut calls = Calls::new();
@@ -132,6 +219,14 @@ fn refusals_have_words() {
     assert_eq!(
         refusal.to_string(),
         "refused 2 for the table: the text is longer than 65,536 bytes"
+    );
+    assert_eq!(
+        refused(11, 2, Part::ListingIn(Form::Plain)).to_string(),
+        "refused 11 at line 2 of the old listing: it is plain; recheck takes it, and canon_numbered makes a numbered one afresh"
+    );
+    assert_eq!(
+        refused(11, 2, Part::ListingIn(Form::Numbered)).to_string(),
+        "refused 11 at line 2 of the old listing: it is numbered; recheck_numbered takes it, and canon makes a plain one afresh"
     );
     let unknown = refused(13, 0, Part::Table).words();
     for number in [1, 2, 3, 4, 5, 10, 11, 12, 20] {
@@ -165,12 +260,16 @@ fn the_output_grows() {
     let mut calls = Calls::new();
     let (table, listing) = wide(400, 64);
     assert!(listing.len() > 2 * 65_536);
-    for _ in 0..2 {
-        assert_eq!(calls.canon(table.as_bytes()).unwrap(), listing);
-        assert_eq!(calls.canon(TALK_SHOW).unwrap(), tabs(ANSWER));
+    let table = table.as_bytes();
+    for form in FORMS {
+        let listing = in_form(form, &listing);
+        for _ in 0..2 {
+            assert_eq!(calls.canon_in(form, table).unwrap(), listing);
+            assert_eq!(calls.canon(TALK_SHOW).unwrap(), tabs(ANSWER));
+        }
+        let refusal = calls.recheck_in(form, table, table, listing.as_bytes());
+        assert_eq!(refusal.unwrap_err(), refused(11, 0, Part::OldListing));
     }
-    let refusal = calls.recheck(table.as_bytes(), table.as_bytes(), listing.as_bytes());
-    assert_eq!(refusal.unwrap_err(), refused(11, 0, Part::OldListing));
 }
 
 #[test]
@@ -191,21 +290,21 @@ fn recheck_grows_for_its_first_line() {
 }
 
 /// A listing with one byte replaced or left out, at each place in turn.
-fn damaged() -> impl Iterator<Item = Vec<u8>> {
-    (0..LISTING.len()).flat_map(|at| {
-        let mut other = LISTING.to_vec();
+fn damaged(listing: &[u8]) -> impl Iterator<Item = Vec<u8>> + '_ {
+    (0..listing.len()).flat_map(|at| {
+        let mut other = listing.to_vec();
         other[at] = b"019\t\n,:-+a"[at % 10];
-        let without = [&LISTING[..at], &LISTING[at + 1..]].concat();
+        let without = [&listing[..at], &listing[at + 1..]].concat();
         [other, without]
     })
 }
 
-#[test]
-fn a_listing_is_read_where_recheck_takes_it() {
+fn is_read_where_recheck_takes_it(form: Form) {
+    let listing = in_form(form, std::str::from_utf8(LISTING).unwrap());
     let mut calls = Calls::new();
     let mut at_one_line = 0;
-    for listing in damaged() {
-        let refused = calls.recheck(TWO_SHOWS, TWO_SHOWS, &listing).err();
+    for listing in damaged(listing.as_bytes()) {
+        let refused = calls.recheck_in(form, TWO_SHOWS, TWO_SHOWS, &listing).err();
         let Err(fault) = Listing::read(&listing) else {
             continue;
         };
@@ -218,4 +317,11 @@ fn a_listing_is_read_where_recheck_takes_it() {
         at_one_line += usize::from(refusal.line == fault.line);
     }
     assert!(at_one_line > LISTING.len(), "{at_one_line}");
+}
+
+#[test]
+fn a_listing_is_read_where_recheck_takes_it() {
+    for form in FORMS {
+        is_read_where_recheck_takes_it(form);
+    }
 }

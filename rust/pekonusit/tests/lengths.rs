@@ -1,14 +1,23 @@
 //! The stated lengths beside the archive's own and the header's.
 
-use pekonusit::lengths;
 use pekonusit::raw::{self, Outcome};
+use pekonusit::{lengths, Form};
 
 const TABLE: &[u8] = b"budget\t1\nprim\t0\nroot\t0\t+\n";
-const LISTING: &[u8] = b"answers\t1\nroot\t0\t+\t1\t1\t0\t0\t1\n0\tprim\t0\n";
+const ROOT: &str = "root\t0\t+\t1\t1\t0\t0\t1\n0\tprim\t0\n";
 const SHORT: Outcome = Outcome::Refused {
     number: 20,
     line: 0,
 };
+
+/// The listing of the table in this form.
+fn listing(form: Form) -> String {
+    let second = match form {
+        Form::Plain => "",
+        Form::Numbered => "numbered\n",
+    };
+    format!("answers\t1\n{second}{ROOT}")
+}
 
 /// Scratch of these lengths: the draft, then the slices of numbers.
 fn lent<const N: usize>(lengths: &[usize]) -> (Vec<u8>, [Vec<u32>; N]) {
@@ -16,11 +25,11 @@ fn lent<const N: usize>(lengths: &[usize]) -> (Vec<u8>, [Vec<u32>; N]) {
     (vec![0; lengths[0]], words)
 }
 
-fn canon(lengths: &[usize]) -> Outcome {
+fn canon(form: Form, lengths: &[usize]) -> Outcome {
     let (mut draft, [mut table, mut arena, mut work]) = lent(lengths);
     let mut out = vec![0; 100];
     raw::canon(
-        TABLE, &mut out, &mut draft, &mut table, &mut arena, &mut work,
+        form, TABLE, &mut out, &mut draft, &mut table, &mut arena, &mut work,
     )
 }
 
@@ -32,17 +41,27 @@ fn canon_root(lengths: &[usize]) -> Outcome {
     )
 }
 
-fn recheck(lengths: &[usize]) -> Outcome {
+fn recheck(form: Form, lengths: &[usize]) -> Outcome {
     let (mut draft, [mut old, mut table, mut arena, mut work]) = lent(lengths);
     let mut out = vec![0; 100];
+    let listing = listing(form);
     raw::recheck(
-        TABLE, TABLE, LISTING, &mut out, &mut draft, &mut old, &mut table, &mut arena, &mut work,
+        form,
+        TABLE,
+        TABLE,
+        listing.as_bytes(),
+        &mut out,
+        &mut draft,
+        &mut old,
+        &mut table,
+        &mut arena,
+        &mut work,
     )
 }
 
 /// As stated a call answers, and one element less in any slice is short.
-fn held(call: fn(&[usize]) -> Outcome, stated: &[usize], written: u32) {
-    assert_eq!(call(stated), Outcome::Written(written));
+fn held(call: impl Fn(&[usize]) -> Outcome, stated: &[usize], written: usize) {
+    assert_eq!(call(stated), Outcome::Written(written as u32));
     for i in 0..stated.len() {
         let mut short = stated.to_vec();
         short[i] -= 1;
@@ -58,17 +77,23 @@ fn the_archive_asks_for_what_is_stated() {
         lengths::ARENA,
         lengths::WORK,
     ];
-    let listing = LISTING.len() as u32;
-    held(canon, &stated, listing);
-    held(canon_root, &stated, listing - "answers\t1\n".len() as u32);
-    let stated = [
+    let rechecked = [
         lengths::DRAFT,
         lengths::TABLE,
         lengths::TABLE,
         lengths::RECHECK_ARENA,
         lengths::WORK,
     ];
-    held(recheck, &stated, listing + "kept\n".len() as u32);
+    held(canon_root, &stated, ROOT.len());
+    for form in [Form::Plain, Form::Numbered] {
+        let length = listing(form).len();
+        held(|lent| canon(form, lent), &stated, length);
+        held(
+            |lent| recheck(form, lent),
+            &rechecked,
+            length + "kept\n".len(),
+        );
+    }
 }
 
 #[test]
