@@ -1,8 +1,8 @@
-/* Pekonusit's three calls from C. To build it:
+/* Pekonusit's calls from C. To build it:
  *   cc -Iinclude examples/calls.c -Ltarget/staticlib -lsignatures -o calls
- *   calls canon TABLE
+ *   calls canon TABLE, or calls canon_numbered TABLE
  *   calls root TABLE ID SIGN
- *   calls recheck OLD NEW LISTING
+ *   calls recheck OLD NEW LISTING, or calls recheck_numbered OLD NEW LISTING
  * It prints the text, or `refused`, the number and the line; the exit status is 0, 1, or 2 where it was called wrongly. */
 #include <pekonusit.h>
 #include <stdio.h>
@@ -27,10 +27,10 @@ static size_t read_text(const char *path, uint8_t *text) {
   return length;
 }
 
-static uint64_t canon(char **words) {
+static uint64_t canon(char **words, int numbered) {
   size_t length = read_text(words[0], texts[0]);
-  return pekonusit_canon(texts[0], length, out, PEKONUSIT_OUTPUT, draft, PEKONUSIT_DRAFT, table, PEKONUSIT_TABLE, arena, PEKONUSIT_ARENA, work,
-                         PEKONUSIT_WORK);
+  return (numbered ? pekonusit_canon_numbered : pekonusit_canon)(texts[0], length, out, PEKONUSIT_OUTPUT, draft, PEKONUSIT_DRAFT, table,
+                                                                 PEKONUSIT_TABLE, arena, PEKONUSIT_ARENA, work, PEKONUSIT_WORK);
 }
 
 static uint64_t canon_root(char **words) {
@@ -40,23 +40,31 @@ static uint64_t canon_root(char **words) {
                               PEKONUSIT_ARENA, work, PEKONUSIT_WORK);
 }
 
-static uint64_t recheck(char **words) {
+static uint64_t recheck(char **words, int numbered) {
   size_t lengths[3];
   for (int i = 0; i < 3; i++) lengths[i] = read_text(words[i], texts[i]);
-  return pekonusit_recheck(texts[0], lengths[0], texts[1], lengths[1], texts[2], lengths[2], out, PEKONUSIT_OUTPUT, draft, PEKONUSIT_DRAFT, old,
-                           PEKONUSIT_TABLE, table, PEKONUSIT_TABLE, arena, PEKONUSIT_RECHECK_ARENA, work, PEKONUSIT_WORK);
+  return (numbered ? pekonusit_recheck_numbered : pekonusit_recheck)(
+      texts[0], lengths[0], texts[1], lengths[1], texts[2], lengths[2], out, PEKONUSIT_OUTPUT, draft, PEKONUSIT_DRAFT, old, PEKONUSIT_TABLE, table,
+      PEKONUSIT_TABLE, arena, PEKONUSIT_RECHECK_ARENA, work, PEKONUSIT_WORK);
 }
+
+/* Whether so many words come, and the first names this call. */
+static int asks(int count, char **words, int expected, const char *call) { return count == expected && strcmp(words[1], call) == 0; }
 
 int main(int count, char **words) {
   uint64_t answer;
-  if (count == 3 && strcmp(words[1], "canon") == 0) {
-    answer = canon(words + 2);
-  } else if (count == 5 && strcmp(words[1], "root") == 0) {
+  if (asks(count, words, 3, "canon")) {
+    answer = canon(words + 2, 0);
+  } else if (asks(count, words, 3, "canon_numbered")) {
+    answer = canon(words + 2, 1);
+  } else if (asks(count, words, 5, "root")) {
     answer = canon_root(words + 2);
-  } else if (count == 5 && strcmp(words[1], "recheck") == 0) {
-    answer = recheck(words + 2);
+  } else if (asks(count, words, 5, "recheck")) {
+    answer = recheck(words + 2, 0);
+  } else if (asks(count, words, 5, "recheck_numbered")) {
+    answer = recheck(words + 2, 1);
   } else {
-    fprintf(stderr, "usage: calls canon TABLE, calls root TABLE ID SIGN, or calls recheck OLD NEW LISTING\n");
+    fprintf(stderr, "usage: calls canon[_numbered] TABLE, calls root TABLE ID SIGN, or calls recheck[_numbered] OLD NEW LISTING\n");
     return 2;
   }
   if (pekonusit_refused(answer) != 0) {

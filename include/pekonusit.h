@@ -16,8 +16,8 @@ extern "C" {
  * every return all of it is zero. No two slices may share a cell. */
 #define PEKONUSIT_DRAFT 65536         /* uint8_t */
 #define PEKONUSIT_TABLE 77378         /* uint32_t, for table and for old */
-#define PEKONUSIT_ARENA 57601         /* uint32_t, for canon and canon_root */
-#define PEKONUSIT_RECHECK_ARENA 65536 /* uint32_t, for recheck */
+#define PEKONUSIT_ARENA 57601         /* uint32_t, for canon, canon_numbered and canon_root */
+#define PEKONUSIT_RECHECK_ARENA 65536 /* uint32_t, for recheck and recheck_numbered */
 #define PEKONUSIT_WORK 45058          /* uint32_t */
 
 /* The output may have any length; this is what the programs lend. A text that is longer than the output is refused with 12. */
@@ -36,6 +36,14 @@ uint64_t pekonusit_canon(const uint8_t *text, size_t text_len,
                          uint32_t *table, size_t table_len,
                          uint32_t *arena, size_t arena_len,
                          uint32_t *work, size_t work_len);
+
+/* The same with the variables of each root numbered 0, 1, 2 and so on, in the order of their first appearance: a numbered listing. */
+uint64_t pekonusit_canon_numbered(const uint8_t *text, size_t text_len,
+                                  uint8_t *out, size_t out_len,
+                                  uint8_t *draft, size_t draft_len,
+                                  uint32_t *table, size_t table_len,
+                                  uint32_t *arena, size_t arena_len,
+                                  uint32_t *work, size_t work_len);
 
 /* The lines of one root of a table: an entry's id, and its sign, 0 for + and any other number for -. */
 uint64_t pekonusit_canon_root(const uint8_t *text, size_t text_len,
@@ -56,6 +64,17 @@ uint64_t pekonusit_recheck(const uint8_t *old_text, size_t old_text_len,
                            uint32_t *table, size_t table_len,
                            uint32_t *arena, size_t arena_len,
                            uint32_t *work, size_t work_len);
+
+/* The same with a numbered listing before and after. */
+uint64_t pekonusit_recheck_numbered(const uint8_t *old_text, size_t old_text_len,
+                                    const uint8_t *new_text, size_t new_text_len,
+                                    const uint8_t *listing, size_t listing_len,
+                                    uint8_t *out, size_t out_len,
+                                    uint8_t *draft, size_t draft_len,
+                                    uint32_t *old, size_t old_len,
+                                    uint32_t *table, size_t table_len,
+                                    uint32_t *arena, size_t arena_len,
+                                    uint32_t *work, size_t work_len);
 
 #ifdef __cplusplus
 }

@@ -51,6 +51,13 @@ fn run(program: &Path, words: &[&str]) -> Output {
     output.expect("the program runs")
 }
 
+/// A folder of one test.
+fn folder(test: &str) -> PathBuf {
+    let folder = PathBuf::from(env!("CARGO_TARGET_TMPDIR")).join(test);
+    fs::create_dir_all(&folder).unwrap();
+    folder
+}
+
 fn example(name: &str) -> Vec<u8> {
     fs::read(format!("{ROOT}/examples/{name}")).unwrap()
 }
@@ -83,10 +90,31 @@ fn c_gives_what_the_crate_gives() {
 }
 
 #[test]
-fn c_tells_a_refusal() {
-    let folder = PathBuf::from(env!("CARGO_TARGET_TMPDIR")).join("refusal");
-    fs::create_dir_all(&folder).unwrap();
+fn c_gives_numbered_listings() {
+    let folder = folder("numbered");
     let program = compiled(&folder);
+    let mut calls = Calls::new();
+    let listing = calls.canon_numbered(&example("bailed.table")).unwrap();
+    let output = run(&program, &["canon_numbered", "bailed.table"]);
+    assert_eq!(output.stdout, listing.as_bytes());
+    let file = folder.join("bailed.listing");
+    fs::write(&file, &listing).unwrap();
+    let mut words = [
+        "recheck_numbered",
+        "bailed.table",
+        "bailed.table",
+        file.to_str().unwrap(),
+    ];
+    let output = run(&program, &words);
+    assert_eq!(output.stdout, format!("kept\tkept\n{listing}").as_bytes());
+    words[0] = "recheck";
+    let output = run(&program, &words);
+    assert_eq!(output.stdout, b"refused\t11\t2\n");
+}
+
+#[test]
+fn c_tells_a_refusal() {
+    let program = compiled(&folder("refusal"));
     let output = run(&program, &["canon", "two-shows.listing"]);
     assert_eq!(
         (output.stdout.as_slice(), output.status.code()),
