@@ -48,6 +48,9 @@ pub struct Canon {
     pub listings: Option<PathBuf>,
 
     #[command(flatten)]
+    pub numbered: Numbered,
+
+    #[command(flatten)]
     pub depth: Depth,
 }
 
@@ -72,6 +75,9 @@ pub struct Recheck {
     /// Write the listing, without its first line, into this file, in place of printing it
     #[arg(long, value_name = "FILE")]
     pub write: Option<PathBuf>,
+
+    #[command(flatten)]
+    pub numbered: Numbered,
 
     #[command(flatten)]
     pub depth: Depth,
@@ -103,7 +109,26 @@ pub struct Shows {
     pub jobs: Option<usize>,
 
     #[command(flatten)]
+    pub numbered: Numbered,
+
+    #[command(flatten)]
     pub depth: Depth,
+}
+
+#[derive(Args)]
+pub struct Numbered {
+    /// Have numbered listings, by the calls canon_numbered and recheck_numbered: each root's variables are 0, 1, 2 and so on, in the order of their first appearance
+    #[arg(long)]
+    pub numbered: bool,
+}
+
+impl Numbered {
+    pub fn form(&self) -> pekonusit::Form {
+        match self.numbered {
+            true => pekonusit::Form::Numbered,
+            false => pekonusit::Form::Plain,
+        }
+    }
 }
 
 #[derive(Args)]

@@ -38,7 +38,7 @@ fn one(
     path: &Path,
     table: &[u8],
 ) -> io::Result<Verdict> {
-    let listing = match calls.canon(table) {
+    let listing = match calls.canon_in(arguments.numbered.form(), table) {
         Ok(listing) => listing,
         Err(refusal) => {
             if !arguments.show && arguments.listings.is_none() {

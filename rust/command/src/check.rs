@@ -1,8 +1,8 @@
-//! Two listings beside each other: which roots have changed, and how.
+//! Two listings of one form beside each other: which roots have changed, and how.
 
 use std::io;
 
-use pekonusit::{Answer, Done, Listing, Names, Rechecked, Root, View};
+use pekonusit::{Answer, Done, Form, Listing, Names, Rechecked, Root, View};
 
 /// A root that recheck has kept or run again.
 pub struct Checked {
@@ -92,7 +92,11 @@ impl<'a> Told<'a> {
     fn read(text: &'a [u8]) -> io::Result<Self> {
         let listing = Listing::read(text).map_err(io::Error::other)?;
         let text = std::str::from_utf8(text).map_err(io::Error::other)?;
-        let (_, mut rest) = after_lines(text, 1);
+        let head = match listing.form {
+            Form::Plain => 1,
+            Form::Numbered => 2,
+        };
+        let (_, mut rest) = after_lines(text, head);
         let mut roots = Vec::new();
         for root in listing.roots {
             let count = match &root.answer {

@@ -17,7 +17,8 @@ pub fn run(arguments: &Recheck) -> io::Result<Verdict> {
         listing: files::read(&arguments.listing)?,
     };
     let mut out = BufWriter::new(io::stdout().lock());
-    let rechecked = match Calls::new().recheck(&texts.old, &texts.new, &texts.listing) {
+    let form = arguments.numbered.form();
+    let rechecked = match Calls::new().recheck_in(form, &texts.old, &texts.new, &texts.listing) {
         Ok(rechecked) => rechecked,
         Err(refusal) => {
             if !arguments.show && arguments.write.is_none() {

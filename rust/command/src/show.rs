@@ -4,7 +4,7 @@ use std::ffi::OsString;
 use std::io;
 use std::path::{Path, PathBuf};
 
-use pekonusit::{Calls, Done, Part, Refusal, View};
+use pekonusit::{Calls, Done, Form, Part, Refusal, View};
 
 use crate::check::{self, Checked};
 use crate::files::{self, Beside};
@@ -36,13 +36,14 @@ impl Show {
         }
     }
 
-    /// Rechecks the show. Its new listing is written beside the old one.
-    pub fn check(&self, calls: &mut Calls, view: View) -> Outcome {
-        let outcome = self.try_check(calls, view);
+    /// Rechecks the show. Its new listing is written beside the old one, in the
+    /// same form.
+    pub fn check(&self, calls: &mut Calls, form: Form, view: View) -> Outcome {
+        let outcome = self.try_check(calls, form, view);
         outcome.unwrap_or_else(|trouble| Outcome::Refused(trouble.to_string()))
     }
 
-    fn try_check(&self, calls: &mut Calls, view: View) -> io::Result<Outcome> {
+    fn try_check(&self, calls: &mut Calls, form: Form, view: View) -> io::Result<Outcome> {
         let beside = Beside::new(&self.listing)?;
         let new = files::read(&self.new)?;
         let old = files::read_if_there(&self.old)?;
@@ -50,9 +51,9 @@ impl Show {
         match (old, listing) {
             (Some(old), Some(listing)) => {
                 let texts = Texts { old, new, listing };
-                texts.recheck(calls, view, beside)
+                texts.recheck(calls, form, view, beside)
             }
-            _ => fresh(&new, calls, view, beside),
+            _ => fresh(&new, calls, form, view, beside),
         }
     }
 }
@@ -65,8 +66,14 @@ pub struct Texts {
 }
 
 impl Texts {
-    fn recheck(&self, calls: &mut Calls, view: View, beside: Beside) -> io::Result<Outcome> {
-        let rechecked = match calls.recheck(&self.old, &self.new, &self.listing) {
+    fn recheck(
+        &self,
+        calls: &mut Calls,
+        form: Form,
+        view: View,
+        beside: Beside,
+    ) -> io::Result<Outcome> {
+        let rechecked = match calls.recheck_in(form, &self.old, &self.new, &self.listing) {
             Ok(rechecked) => rechecked,
             Err(refusal) => return Ok(Outcome::Refused(self.explained(&refusal))),
         };
@@ -82,15 +89,21 @@ impl Texts {
     pub fn explained(&self, refusal: &Refusal) -> String {
         let text = match refusal.part {
             Part::OldTable => &self.old,
-            Part::OldListing => &self.listing,
+            Part::OldListing | Part::ListingIn(_) => &self.listing,
             _ => &self.new,
         };
         explained(refusal, text)
     }
 }
 
-fn fresh(new: &[u8], calls: &mut Calls, view: View, beside: Beside) -> io::Result<Outcome> {
-    let listing = match calls.canon(new) {
+fn fresh(
+    new: &[u8],
+    calls: &mut Calls,
+    form: Form,
+    view: View,
+    beside: Beside,
+) -> io::Result<Outcome> {
+    let listing = match calls.canon_in(form, new) {
         Ok(listing) => listing,
         Err(refusal) => return Ok(Outcome::Refused(explained(&refusal, new))),
     };

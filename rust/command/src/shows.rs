@@ -7,7 +7,7 @@ use std::sync::atomic::{AtomicUsize, Ordering};
 use std::thread;
 
 use indicatif::{ProgressBar, ProgressStyle};
-use pekonusit::{Calls, View};
+use pekonusit::{Calls, Form, View};
 
 use crate::arguments::Shows;
 use crate::show::{Outcome, Show};
@@ -20,7 +20,8 @@ pub fn run(arguments: &Shows) -> io::Result<Verdict> {
     let shows = collect(arguments)?;
     let cores = thread::available_parallelism().map_or(1, NonZeroUsize::get);
     let jobs = arguments.jobs.unwrap_or(cores).clamp(1, shows.len());
-    let outcomes = check_all(&shows, jobs, arguments.depth.view());
+    let (form, view) = (arguments.numbered.form(), arguments.depth.view());
+    let outcomes = check_all(&shows, jobs, form, view);
     let mut out = BufWriter::new(io::stdout().lock());
     let verdict = report::shows(&mut out, &shows, &outcomes)?;
     out.flush()?;
@@ -46,7 +47,7 @@ fn collect(arguments: &Shows) -> io::Result<Vec<Show>> {
 }
 
 /// Checks the shows on so many threads, each with scratch of its own.
-fn check_all(shows: &[Show], jobs: usize, view: View) -> Vec<Outcome> {
+fn check_all(shows: &[Show], jobs: usize, form: Form, view: View) -> Vec<Outcome> {
     let bar = bar(shows.len());
     let next = AtomicUsize::new(0);
     let work = || {
@@ -57,7 +58,7 @@ fn check_all(shows: &[Show], jobs: usize, view: View) -> Vec<Outcome> {
             let Some(show) = shows.get(i) else {
                 return done;
             };
-            done.push((i, show.check(&mut calls, view)));
+            done.push((i, show.check(&mut calls, form, view)));
             bar.inc(1);
         }
     };

@@ -24,6 +24,23 @@ fn canon_prints_listings() {
 }
 
 #[test]
+fn canon_prints_numbered_listings() {
+    let ran = run(&["canon", "--numbered", BAILED]);
+    let plain = fs::read_to_string(Path::new(common::ROOT).join("examples/bailed.listing"));
+    let mut numbered = plain.unwrap().replacen('\n', "\nnumbered\n", 1);
+    // The first root has the variable 24, the second one 40 and then 3.
+    for (variable, number) in [(24, 0), (40, 0), (3, 1)] {
+        let line = |number| format!("\ttyvar\t{number}\n");
+        assert!(numbered.contains(&line(variable)));
+        numbered = numbered.replace(&line(variable), &line(number));
+    }
+    assert_eq!((ran.out, ran.status), (numbered, Some(0)));
+    // The letters of a signature are in order of appearance in both forms.
+    let shown = run(&["canon", "--numbered", "--show", BAILED]).out;
+    assert_eq!(shown, run(&["canon", "--show", BAILED]).out);
+}
+
+#[test]
 fn canon_shows_signatures() {
     let ran = run(&["canon", "--show", TALK_SHOW, EDITED]);
     let shown = "examples/talk-show.table\n  root 5 +  { actual : Int, planned : Int, .. } -> [Int]\n\
@@ -129,15 +146,18 @@ fn recheck_shows_the_difference() {
     assert_eq!((ran.out.as_str(), ran.status), (shown, Some(1)));
 }
 
+/// Writes a text, `>` for each tab, into a file of a test and gives its path.
+fn file(test: &str, name: &str, text: &str) -> String {
+    let folder = Path::new(env!("CARGO_TARGET_TMPDIR")).join(test);
+    fs::create_dir_all(&folder).unwrap();
+    let path = folder.join(name);
+    fs::write(&path, text.replace('>', "\t")).unwrap();
+    path.to_str().unwrap().to_string()
+}
+
 #[test]
 fn a_difference_that_no_signature_shows_is_told_by_nodes() {
-    let folder = Path::new(env!("CARGO_TARGET_TMPDIR")).join("hidden");
-    fs::create_dir_all(&folder).unwrap();
-    let file = |name: &str, text: &str| {
-        let path = folder.join(name);
-        fs::write(&path, text.replace('>', "\t")).unwrap();
-        path.to_str().unwrap().to_string()
-    };
+    let file = |name, text| file("hidden", name, text);
     let old = file("old", "budget>9\nname>Log\nprim>0\nnamed>0>0\nroot>1>+\n");
     let new = file("new", "budget>9\nname>Log\nprim>1\nnamed>0>0\nroot>1>+\n");
     let listing = file(
@@ -152,6 +172,58 @@ fn a_difference_that_no_signature_shows_is_told_by_nodes() {
     + 0>prim>1
 ";
     assert_eq!((ran.out, ran.status), (shown.replace('>', "\t"), Some(1)));
+}
+
+#[test]
+fn another_variable_is_no_change_in_numbered_listings() {
+    let file = |name: &str, text: &str| file("variable", name, text);
+    let table = "budget>9\nvar>->-\nvar>->-\nlist>0\nroot>2>+\n";
+    let old = file("old", table);
+    let new = file("new", &table.replace("list>0", "list>1"));
+    let listed = run(&["canon", &old]).out;
+    let listing = file("listing", &listed);
+    let ran = run(&["recheck", "--show", &old, &new, &listing]);
+    let shown = "  root 2 +  changed
+      [a]
+    What has changed is not seen in this; the nodes of the listing:
+    - 0>tyvar>0
+    + 0>tyvar>1
+";
+    assert_eq!((ran.out, ran.status), (shown.replace('>', "\t"), Some(1)));
+    let numbered = run(&["canon", "--numbered", &old]).out;
+    let listing = file("numbered", &numbered);
+    let words = ["recheck", "--numbered", &old, &new, &listing];
+    let ran = run(&words);
+    assert_eq!(
+        (ran.out, ran.status),
+        (format!("redone\n{numbered}"), Some(0))
+    );
+    let ran = run(&[&words[..], &["--show"]].concat());
+    let shown = "  root 2 +  redone  [a]\n";
+    assert_eq!((ran.out.as_str(), ran.status), (shown, Some(0)));
+}
+
+#[test]
+fn recheck_tells_a_listing_of_the_other_form() {
+    let ran = run(&["recheck", "--numbered", TWO_SHOWS, EDITED, LISTING]);
+    assert_eq!(
+        (ran.out.as_str(), ran.status),
+        ("refused\t11\t2\n", Some(2))
+    );
+    assert_eq!(
+        ran.err,
+        "refused 11 at line 2 of the old listing: it is plain; recheck takes it, and canon_numbered makes a numbered one afresh\n    \
+         2: root>5>+>1>9>0>0>4\n"
+    );
+    let numbered = run(&["canon", "--numbered", TWO_SHOWS]).out;
+    let listing = file("other_form", "listing", &numbered);
+    let ran = run(&["recheck", "--show", TWO_SHOWS, EDITED, &listing]);
+    assert_eq!((ran.out.as_str(), ran.status), ("", Some(2)));
+    assert_eq!(
+        ran.err,
+        "refused 11 at line 2 of the old listing: it is numbered; recheck_numbered takes it, and canon makes a plain one afresh\n    \
+         2: numbered\n"
+    );
 }
 
 #[test]
@@ -178,6 +250,9 @@ fn the_help_names_everything() {
     assert_eq!(ran.status, Some(0));
     for word in ["canon", "recheck", "shows", "Exit status"] {
         assert!(ran.out.contains(word), "{word}");
+    }
+    for action in ["canon", "recheck", "shows"] {
+        assert!(run(&[action, "--help"]).out.contains("--numbered"));
     }
     let ran = run(&["shows", "--help"]);
     for word in [

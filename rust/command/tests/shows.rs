@@ -10,7 +10,7 @@ use std::thread::sleep;
 use std::time::{Duration, Instant};
 
 use common::{words, Shows};
-use pekonusit::{Calls, Done, Listing};
+use pekonusit::{Calls, Done, Form, Listing};
 
 /// How many shows; PEKONUSIT_SHOWS names another number.
 fn count() -> usize {
@@ -56,6 +56,43 @@ fn a_hundred_shows_are_renewed() {
     let ran = shows.run(&[]);
     let total = total.replace(&format!("{changed} changed"), "0 changed");
     assert_eq!((ran.out, ran.status), (format!("{total}\n"), Some(0)));
+}
+
+/// The options that ask for listings of this form.
+fn options(form: Form) -> &'static [&'static str] {
+    match form {
+        Form::Plain => &[],
+        Form::Numbered => &["--numbered"],
+    }
+}
+
+#[test]
+fn numbered_listings_are_renewed() {
+    let plain = Shows::new("renewed_plain", 20).run(&[]);
+    let shows = Shows::in_form(Form::Numbered, "renewed_numbered", 20);
+    let ran = shows.run(&["--numbered"]);
+    assert_eq!(shows.listings(), shows.afresh(|show| &show.new));
+    assert_eq!(shows.left_over(), 0);
+    // The edits of demands move no variable, so that both forms tell the same.
+    assert_eq!((ran.out, ran.status), (plain.out, plain.status));
+}
+
+#[test]
+fn listings_of_the_other_form_stay() {
+    let words = [
+        (Form::Plain, Form::Numbered, "it is numbered; recheck_numbered takes it, and canon makes a plain one afresh\n    2: numbered\n"),
+        (Form::Numbered, Form::Plain, "it is plain; recheck takes it, and canon_numbered makes a numbered one afresh\n    2: root>"),
+    ];
+    for (asked, found, words) in words {
+        let shows = Shows::in_form(found, &format!("other_than_{asked:?}"), 3);
+        let before = shows.listings();
+        let ran = shows.run(options(asked));
+        let told = format!("show-00000\n  refused 11 at line 2 of the old listing: {words}");
+        assert!(ran.out.starts_with(&told), "{}", ran.out);
+        assert!(ran.out.contains("\n3 shows, 0 of them new, 3 refused; "));
+        assert_eq!((shows.listings(), ran.status), (before, Some(2)));
+        assert_eq!(shows.left_over(), 0);
+    }
 }
 
 #[test]
@@ -113,10 +150,16 @@ fn a_damaged_show_is_told_and_the_others_go_on() {
 
 #[test]
 fn a_new_show_gets_a_listing() {
-    let shows = Shows::new("new_show", 4);
+    for form in [Form::Plain, Form::Numbered] {
+        new_shows(form);
+    }
+}
+
+fn new_shows(form: Form) {
+    let shows = Shows::in_form(form, "new_show", 4);
     fs::remove_file(shows.listing(1)).unwrap();
     fs::remove_file(shows.old(2)).unwrap();
-    let ran = shows.run(&[]);
+    let ran = shows.run(options(form));
     assert!(
         ran.out.contains("show-00001, which is new\n  root "),
         "{}",

@@ -8,7 +8,7 @@ use std::path::{Path, PathBuf};
 use std::process::{Command, Output};
 use std::{env, fs};
 
-use pekonusit::Calls;
+use pekonusit::{Calls, Form};
 
 /// The repository's root.
 pub const ROOT: &str = concat!(env!("CARGO_MANIFEST_DIR"), "/../..");
@@ -53,16 +53,22 @@ pub fn run(words: &[&str]) -> Ran {
 /// A folder of a test with generated shows, which is gone behind the test.
 pub struct Shows {
     folder: PathBuf,
+    form: Form,
     pub all: Vec<generated::Show>,
 }
 
 impl Shows {
-    /// So many shows with their old tables, new tables and old listings.
     pub fn new(test: &str, count: usize) -> Self {
+        Shows::in_form(Form::Plain, test, count)
+    }
+
+    /// So many shows with their old tables, new tables and old listings, which
+    /// are in this form.
+    pub fn in_form(form: Form, test: &str, count: usize) -> Self {
         let folder = Path::new(env!("CARGO_TARGET_TMPDIR")).join(test);
         let _ = fs::remove_dir_all(&folder);
         let all = (0..count).map(generated::show).collect();
-        let shows = Shows { folder, all };
+        let shows = Shows { folder, form, all };
         for part in ["old", "new", "listings"] {
             fs::create_dir_all(shows.folder(part)).unwrap();
         }
@@ -70,7 +76,7 @@ impl Shows {
         for (i, show) in shows.all.iter().enumerate() {
             fs::write(shows.old(i), &show.old).unwrap();
             fs::write(shows.new_table(i), &show.new).unwrap();
-            let listing = calls.canon(show.old.as_bytes()).unwrap();
+            let listing = calls.canon_in(form, show.old.as_bytes()).unwrap();
             fs::write(shows.listing(i), listing).unwrap();
         }
         shows
@@ -128,10 +134,10 @@ impl Shows {
         (0..self.all.len()).map(read).collect()
     }
 
-    /// What canon gives for the old tables, or for the new ones.
+    /// What canon gives, in the form of the listings, for the old tables, or for the new ones.
     pub fn afresh(&self, of: fn(&generated::Show) -> &str) -> Vec<String> {
         let mut calls = Calls::new();
-        let canon = |show| calls.canon(of(show).as_bytes()).unwrap();
+        let canon = |show| calls.canon_in(self.form, of(show).as_bytes()).unwrap();
         self.all.iter().map(canon).collect()
     }
 
