@@ -175,6 +175,27 @@ fn a_difference_that_no_signature_shows_is_told_by_nodes() {
 }
 
 #[test]
+fn a_difference_in_a_roots_own_node_is_told_in_both_forms() {
+    let file = |name: &str, text: &str| file("own_node", name, text);
+    let table = "budget>9\nname>log\nset>->->0>-\nroot>0>+\n";
+    let old = file("old", table);
+    // An optional key that is no field.
+    let new = file("new", &table.replace("->->0>-", "->->0>0"));
+    let shown = "  root 0 +  changed
+      { }
+    What has changed is not seen in this; the nodes of the listing:
+    - 0>set>->->0>-
+    + 0>set>->->0>0
+";
+    for options in [&[][..], &["--numbered"]] {
+        let listing = file("listing", &run(&[&["canon", &old], options].concat()).out);
+        let words = ["recheck", "--show", &old, &new, &listing];
+        let ran = run(&[&words, options].concat());
+        assert_eq!((ran.out, ran.status), (shown.replace('>', "\t"), Some(1)));
+    }
+}
+
+#[test]
 fn another_variable_is_no_change_in_numbered_listings() {
     let file = |name: &str, text: &str| file("variable", name, text);
     let table = "budget>9\nvar>->-\nvar>->-\nlist>0\nroot>2>+\n";
