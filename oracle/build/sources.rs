@@ -55,15 +55,22 @@ const DISJOINT: Source = Source {
     counters: counters::DISJOINT,
 };
 
-/// OutputTy with its equality and order; display and traversal are left out.
+/// OutputTy with its equality, its order and its children; display is left out.
 const ARC_TY: Source = Source {
     path: "crates/lang_ty/src/arc_ty.rs",
     prelude: "use crate::shims::{rustc_hash, smol_str};\n",
-    pieces: &[Piece {
-        from: "",
-        to: "pub type Substitutions",
-        tail: "",
-    }],
+    pieces: &[
+        Piece {
+            from: "",
+            to: "// ==============================================================================\n// Display helpers",
+            tail: "",
+        },
+        Piece {
+            from: "impl OutputTy {\n    /// Apply `f`",
+            to: "    /// Like `for_each_child`",
+            tail: "}\n",
+        },
+    ],
     dropped: Some(("#[debug(", 12)),
     patches: &[
         Patch {
@@ -90,17 +97,29 @@ const ARC_TY: Source = Source {
     counters: &[],
 };
 
-/// TypeArena with intern, its index and debug forms, and OwnedTy, which
-/// OutputTy names; import, display and traversal are left out.
+/// TypeArena with intern, normalize_vars, its index and debug forms, and
+/// OwnedTy, which OutputTy names; import, display and other traversals are left
+/// out.
 const ARENA: Source = Source {
     path: "crates/lang_ty/src/arena.rs",
-    prelude: "use super::OutputTy;\nuse crate::shims::la_arena::{Arena, Idx};\n\
-              use crate::shims::rustc_hash::FxHashMap;\nuse std::fmt;\nuse std::ops::Index;\n\
-              use std::sync::Arc;\n",
+    prelude: "use super::arc_ty::Substitutions;\nuse super::OutputTy;\n\
+              use crate::shims::la_arena::{Arena, Idx};\n\
+              use crate::shims::rustc_hash::{FxHashMap, FxHashSet};\nuse std::fmt;\n\
+              use std::ops::Index;\nuse std::sync::Arc;\n",
     pieces: &[
         Piece {
             from: "/// Compact 4-byte index",
             to: "    // ==========================================================================\n    // Display",
+            tail: "",
+        },
+        Piece {
+            from: "    /// Normalize all ty vars",
+            to: "    /// Check if `normalize_replacing_unknown`",
+            tail: "",
+        },
+        Piece {
+            from: "    /// Collect free type variables in order",
+            to: "    /// Collect free type vars for an attrset's",
             tail: "}\n",
         },
         Piece {
@@ -120,12 +139,24 @@ const ARENA: Source = Source {
         },
     ],
     dropped: None,
-    patches: &[Patch {
-        name: "arena: stored nodes are measured",
-        find: "let id = self.inner.alloc(e.key().clone());",
-        put: "crate::probe::stored(e.key());
+    patches: &[
+        Patch {
+            name: "arena: stored nodes are measured",
+            find: "let id = self.inner.alloc(e.key().clone());",
+            put: "crate::probe::stored(e.key());
                 let id = self.inner.alloc(e.key().clone());",
-    }],
+        },
+        Patch {
+            name: "arena: path of the stack, where variables are renamed",
+            find: "let result = crate::stack::with_stack(",
+            put: "let result = super::stack::with_stack(",
+        },
+        Patch {
+            name: "arena: path of the stack, where variables are collected",
+            find: "        crate::stack::with_stack(|| {\n            self[ty].for_each_child(",
+            put: "        super::stack::with_stack(|| {\n            self[ty].for_each_child(",
+        },
+    ],
     counters: &[],
 };
 

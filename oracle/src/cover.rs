@@ -4,7 +4,7 @@
 use std::collections::BTreeMap;
 use std::fmt::Write as _;
 
-use crate::{damage, gen, listing, probe, reader, run, Answer, Node, RootAnswer, Table};
+use crate::{damage, gen, listing, probe, reader, run, Answer, Form, Node, RootAnswer, Table};
 
 /// Counts by name.
 #[derive(Default)]
@@ -29,7 +29,7 @@ pub fn report(tables: u64) -> String {
         let mut answers = Counts::default();
         for index in 0..tables {
             let (_, table) = gen::mixed(0, index);
-            match run::run(&table) {
+            match run::run(Form::Plain, &table) {
                 Some(roots) => count_table(&roots, &mut answers),
                 None => answers.add("table outside"),
             }
@@ -47,7 +47,7 @@ pub fn report(tables: u64) -> String {
 pub fn untaken(tables: &[Table]) -> Vec<&'static str> {
     run::on_large_stack(|| {
         for table in tables {
-            run::run(table);
+            run::run(Form::Plain, table);
         }
         let counted = probe::BRANCHES.iter().zip(probe::hits());
         counted
@@ -65,7 +65,7 @@ fn rows(text: &mut String, head: &str, rows: impl Iterator<Item = (String, u64)>
 }
 
 fn count_table(roots: &[RootAnswer], counts: &mut Counts) {
-    if listing::write(roots).len() > 65_536 {
+    if listing::write(Form::Plain, roots).len() > 65_536 {
         counts.add("refusal 12: listing beyond 65,536 bytes");
     }
     for root in roots {

@@ -30,6 +30,19 @@ pub mod vectors;
 pub use reader::Refusal;
 pub use table::{Root, Set, Table};
 
+/// How the variables of an answer are numbered.
+#[derive(Clone, Copy, Debug, PartialEq, Eq)]
+pub enum Form {
+    /// As the canonicalization leaves them.
+    Plain,
+    /// By the text's normalize_vars: 0, 1, 2 and so on in each root.
+    Numbered,
+}
+
+impl Form {
+    pub const ALL: [Form; 2] = [Form::Plain, Form::Numbered];
+}
+
 /// Why there is no listing.
 #[derive(Clone, Copy, Debug, PartialEq, Eq)]
 pub enum Fault {
@@ -110,20 +123,20 @@ pub const fn text_at_hand() -> bool {
 }
 
 /// The answers to a table's roots, in order.
-pub fn answers(table: &[u8]) -> Result<Vec<RootAnswer>, Fault> {
+pub fn answers(form: Form, table: &[u8]) -> Result<Vec<RootAnswer>, Fault> {
     let table = reader::read(table).map_err(Fault::Refused)?;
-    answers_of(&table)
+    answers_of(form, &table)
 }
 
 /// The listing of a table, as bytes.
-pub fn listing(table: &[u8]) -> Result<Vec<u8>, Fault> {
-    Ok(listing::write(&answers(table)?))
+pub fn listing(form: Form, table: &[u8]) -> Result<Vec<u8>, Fault> {
+    Ok(listing::write(form, &answers(form, table)?))
 }
 
 /// What the program prints for a table: the listing, or a line that tells
 /// why there is none.
-pub fn printed(table: &[u8]) -> Vec<u8> {
-    match listing(table) {
+pub fn printed(form: Form, table: &[u8]) -> Vec<u8> {
+    match listing(form, table) {
         Ok(listing) => listing,
         Err(Fault::Refused(refusal)) => refusal.to_text(),
         Err(Fault::Outside) => b"outside\n".to_vec(),
@@ -133,12 +146,12 @@ pub fn printed(table: &[u8]) -> Vec<u8> {
 
 /// The answers to the roots of a table already read.
 #[cfg(text_at_hand)]
-pub fn answers_of(table: &Table) -> Result<Vec<RootAnswer>, Fault> {
-    run::on_large_stack(|| run::run(table)).ok_or(Fault::Outside)
+pub fn answers_of(form: Form, table: &Table) -> Result<Vec<RootAnswer>, Fault> {
+    run::on_large_stack(|| run::run(form, table)).ok_or(Fault::Outside)
 }
 
 /// The answers to the roots of a table already read.
 #[cfg(not(text_at_hand))]
-pub fn answers_of(_table: &Table) -> Result<Vec<RootAnswer>, Fault> {
+pub fn answers_of(_form: Form, _table: &Table) -> Result<Vec<RootAnswer>, Fault> {
     Err(Fault::NoText)
 }

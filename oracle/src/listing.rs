@@ -1,12 +1,21 @@
 //! The listing's text.
 
 use crate::table::{list_text, set_text};
-use crate::{Answer, Node, RootAnswer};
+use crate::{Answer, Form, Node, RootAnswer};
+
+/// The lines before the first root.
+pub fn heading(form: Form, roots: usize) -> String {
+    let answers = format!("answers\t{roots}\n");
+    match form {
+        Form::Plain => answers,
+        Form::Numbered => answers + "numbered\n",
+    }
+}
 
 /// The listing of all roots, as canon prints it. A root that the text has no
 /// answer for is told by the word `endless` or `toolong`, its id and sign.
-pub fn write(answers: &[RootAnswer]) -> Vec<u8> {
-    let mut text = format!("answers\t{}\n", answers.len());
+pub fn write(form: Form, answers: &[RootAnswer]) -> Vec<u8> {
+    let mut text = heading(form, answers.len());
     for answer in answers {
         write_root(answer, &mut text);
     }

@@ -3,10 +3,11 @@
 use std::io::{self, BufWriter, Read, Write};
 use std::process::ExitCode;
 
-use oracle::{damage, frame, gen};
+use oracle::{damage, frame, gen, Form};
 
 const HELP: &str = "\
 oracle < TABLE                    the listing of a table
+oracle --numbered < TABLE         the same with variables numbered in each root
 oracle --batch < FRAMES           the listings of many tables
 oracle gen PROFILE SEED           a random accepted table
 oracle gen PROFILE SEED COUNT     COUNT of them, framed; PROFILE `all` goes
@@ -43,11 +44,8 @@ fn main() -> ExitCode {
 fn run(arguments: &[&str]) -> io::Result<bool> {
     let mut out = BufWriter::new(io::stdout().lock());
     match *arguments {
-        [] => {
-            let mut table = Vec::new();
-            io::stdin().read_to_end(&mut table)?;
-            out.write_all(&oracle::printed(&table))?;
-        }
+        [] => one(&mut out, Form::Plain)?,
+        ["--numbered"] => one(&mut out, Form::Numbered)?,
         ["--batch"] => batch(&mut out)?,
         ["gen", profile, seed] => match (gen::profile(profile), seed.parse()) {
             (Some(profile), Ok(seed)) => out.write_all(&gen::table(profile, seed).to_text())?,
@@ -95,10 +93,16 @@ fn run(arguments: &[&str]) -> io::Result<bool> {
     Ok(true)
 }
 
+fn one(out: &mut impl Write, form: Form) -> io::Result<()> {
+    let mut table = Vec::new();
+    io::stdin().read_to_end(&mut table)?;
+    out.write_all(&oracle::printed(form, &table))
+}
+
 fn batch(out: &mut impl Write) -> io::Result<()> {
     let mut input = io::stdin().lock();
     while let Some((name, table)) = frame::read(&mut input, "table")? {
-        frame::write(out, "listing", &name, &oracle::printed(&table))?;
+        frame::write(out, "listing", &name, &oracle::printed(Form::Plain, &table))?;
     }
     Ok(())
 }

@@ -10,7 +10,7 @@ use crate::text::lang_check::collect::canonicalize_standalone;
 use crate::text::lang_check::storage::{TypeEntry, TypeStorage, TypeVariable};
 use crate::text::lang_check::{Polarity, TyId};
 use crate::text::lang_ty::{AttrSetTy, OutputTy, PrimitiveTy, Ty, TyRef, TypeArena};
-use crate::{Answer, Measures, Node, RootAnswer, Shown};
+use crate::{Answer, Form, Measures, Node, RootAnswer, Shown};
 
 /// Enough for two polarities of 2,048 entries in progress, and for negation
 /// of the deepest type they can give.
@@ -44,13 +44,14 @@ pub fn on_large_stack<R: Send>(f: impl FnOnce() -> R + Send) -> R {
 
 /// Answers to the roots, or none for a table outside the text's domain: a
 /// primitive without a counterpart or a name that is not UTF-8.
-pub fn run(table: &Table) -> Option<Vec<RootAnswer>> {
+pub fn run(form: Form, table: &Table) -> Option<Vec<RootAnswer>> {
     let names = names(table)?;
     let storage = storage(table, &names)?;
+    let budget = u64::from(table.budget);
     let roots = table.roots.iter();
     Some(
         roots
-            .map(|&root| run_root(&storage, u64::from(table.budget), &names, root))
+            .map(|&root| run_root(form, &storage, budget, &names, root))
             .collect(),
     )
 }
@@ -113,13 +114,20 @@ fn attrset(set: &Set, names: &[SmolStr]) -> AttrSetTy<TyId> {
     }
 }
 
-fn run_root(storage: &TypeStorage, budget: u64, names: &[SmolStr], root: Root) -> RootAnswer {
+fn run_root(
+    form: Form,
+    storage: &TypeStorage,
+    budget: u64,
+    names: &[SmolStr],
+    root: Root,
+) -> RootAnswer {
     let polarity = match root.positive {
         true => Polarity::Positive,
         false => Polarity::Negative,
     };
     probe::start(budget);
-    let (arena, ty) = canonicalize_standalone(storage, TyId::from(root.id), polarity);
+    let (mut arena, ty) = canonicalize_standalone(storage, TyId::from(root.id), polarity);
+    // What is stored from here on is none of the run's.
     let record = probe::record();
     let answer = if record.endless {
         Answer::Endless
@@ -132,7 +140,7 @@ fn run_root(storage: &TypeStorage, budget: u64, names: &[SmolStr], root: Root) -
             sorted: record.sorted,
             bailed: record.bailed,
             first_alone: record.first_alone,
-            nodes: Walk::new(&arena, names).nodes(ty),
+            nodes: nodes(form, &mut arena, names, ty),
         })
     };
     RootAnswer {
@@ -145,6 +153,14 @@ fn run_root(storage: &TypeStorage, budget: u64, names: &[SmolStr], root: Root) -
             cells: record.most_cells,
         },
     }
+}
+
+fn nodes(form: Form, arena: &mut TypeArena, names: &[SmolStr], ty: TyRef) -> Vec<Node> {
+    let ty = match form {
+        Form::Plain => ty,
+        Form::Numbered => arena.normalize_vars(ty),
+    };
+    Walk::new(arena, names).nodes(ty)
 }
 
 /// The walk that numbers the nodes below a root: depth first, children left

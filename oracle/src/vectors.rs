@@ -1,11 +1,13 @@
 //! The vectors: a fixed sample of tables with the text's answers, for tests
 //! that run without any Rust.
 
+mod numbered;
+
 use crate::examples;
 use crate::gen::{self, PROFILES};
 use crate::records::{self, Record, BY_RUST};
 use crate::table::Table;
-use crate::{listing, probe, reader, run, Answer, RootAnswer};
+use crate::{listing, probe, reader, run, Answer, Form, RootAnswer};
 
 /// Seeds looked at in each profile.
 const SEEDS: u64 = 600;
@@ -57,12 +59,13 @@ fn vectors() -> Vec<u8> {
         let mut text = Vec::new();
         for example in examples::all() {
             let table = reader::read(&example.table).expect("the examples are accepted");
-            let answers = run::run(&table).expect("the examples are in the domain");
-            text.extend(record(&table, &answers));
+            let answers = run::run(Form::Plain, &table).expect("the examples are in the domain");
+            text.extend(record(Form::Plain, &table, &answers));
         }
         for chosen in choose() {
             text.extend(chosen.record);
         }
+        text.extend(numbered::records().flatten());
         text
     })
 }
@@ -124,9 +127,9 @@ fn candidates() -> Vec<Candidate> {
 fn candidate(profile: usize, seed: u64) -> Option<Candidate> {
     let table = gen::table(profile, seed);
     let before = probe::hits();
-    let answers = run::run(&table)?;
+    let answers = run::run(Form::Plain, &table)?;
     let after = probe::hits();
-    let record = record(&table, &answers);
+    let record = record(Form::Plain, &table, &answers);
     let (most_bytes, _) = share(profile);
     if record.len() > most_bytes || !answers.iter().all(is_usable) {
         return None;
@@ -160,12 +163,15 @@ fn bails(root: &RootAnswer) -> bool {
     matches!(&root.answer, Answer::Shown(shown) if shown.bailed)
 }
 
-fn record(table: &Table, answers: &[RootAnswer]) -> Vec<u8> {
+fn record(form: Form, table: &Table, answers: &[RootAnswer]) -> Vec<u8> {
     let record = Record {
-        call: "canon",
+        call: match form {
+            Form::Plain => "canon",
+            Form::Numbered => "canon_numbered",
+        },
         given: &table.to_text(),
         by: BY_RUST,
-        answer: &listing::write(answers),
+        answer: &listing::write(form, answers),
     };
     record.to_text()
 }

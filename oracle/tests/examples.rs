@@ -2,7 +2,7 @@
 //! written out by hand from the document, `>` for a tab.
 
 use oracle::examples::{self, Example};
-use oracle::{Answer, Node, RootAnswer, Shown};
+use oracle::{Answer, Form, Node, RootAnswer, Shown};
 
 const TABS: char = '>';
 
@@ -16,7 +16,11 @@ fn bytes(text: &str) -> Vec<u8> {
 }
 
 fn listing(table: &[u8]) -> String {
-    let listing = oracle::listing(table).expect("the table has a listing");
+    listing_in(Form::Plain, table)
+}
+
+fn listing_in(form: Form, table: &[u8]) -> String {
+    let listing = oracle::listing(form, table).expect("the table has a listing");
     let listing = String::from_utf8(listing).expect("a listing is text");
     listing.replace('\t', ">")
 }
@@ -30,7 +34,7 @@ fn check(name: &str, table: &str, expected: &str) {
 
 /// The first root's answer.
 fn shown(table: &[u8]) -> Shown {
-    let answers = oracle::answers(table).expect("the table has answers");
+    let answers = oracle::answers(Form::Plain, table).expect("the table has answers");
     match &answers[0].answer {
         Answer::Shown(shown) => shown.clone(),
         other => panic!("no answer: {other:?}"),
@@ -186,7 +190,7 @@ fn bailed() {
 
 /// The mark of each root, and whether it is the first pass's alone.
 fn bails(table: &[u8]) -> Vec<(bool, bool)> {
-    let answers = oracle::answers(table).expect("the table has answers");
+    let answers = oracle::answers(Form::Plain, table).expect("the table has answers");
     let bails = |answer: &RootAnswer| match &answer.answer {
         Answer::Shown(shown) => (shown.bailed, shown.first_alone),
         other => panic!("no answer: {other:?}"),
@@ -209,7 +213,7 @@ fn k12() {
     let lists = bytes(&examples::nested_lists(96));
     let longer = [&b"budget\t4294967295\n"[..], &lists].concat();
     for (table, keys) in [(table, 96), (longer, 97)] {
-        let answers = oracle::answers(&table).expect("the table has answers");
+        let answers = oracle::answers(Form::Plain, &table).expect("the table has answers");
         assert_eq!(answers[0].measures.keys, keys);
         let shown = shown(&table);
         assert_eq!(shown.nodes.len(), keys);
@@ -278,7 +282,9 @@ fn check_outside(table: &[u8]) {
         true => oracle::Fault::Outside,
         false => oracle::Fault::NoText,
     };
-    assert_eq!(oracle::listing(table), Err(expected));
+    for form in Form::ALL {
+        assert_eq!(oracle::listing(form, table), Err(expected));
+    }
 }
 
 #[test]
@@ -294,4 +300,33 @@ fn all_kinds_of_line() {
     let expected = "answers>1\nroot>0>+>1>1>0>0>1\n0>set>->->0>-\n";
     assert_eq!(listing(&bytes(empty)), expected);
     assert_eq!(listing(b"budget\t0\n"), "answers>0\n");
+}
+
+/// Request 1: in each root the variables are 0, 1, 2 and so on, in the order in
+/// which they first appear; the rest is as it was.
+#[test]
+#[cfg_attr(not(text_at_hand), ignore = "the Rust text is not at hand")]
+fn numbered() {
+    for (table, expected) in [
+        ("", "answers>0\nnumbered\n"),
+        (
+            "prim>0\nlist>0\nroot>1>+\n",
+            "answers>1\nnumbered\nroot>1>+>1>2>0>0>2\n0>prim>0\n1>list>0\n",
+        ),
+        // The body has the smaller number; the second root begins anew.
+        (
+            "tyvar>4294967295\ntyvar>7\nfn>0>1\nlist>1\nroot>2>+\nroot>3>+\n",
+            "answers>2\nnumbered\nroot>2>+>1>3>0>0>3\n0>tyvar>0\n1>tyvar>1\n2>fn>0>1\n\
+             root>3>+>1>2>0>0>2\n0>tyvar>0\n1>list>0\n",
+        ),
+        // Fields by key, and then dyn.
+        (
+            "name>a\nname>b\ntyvar>9\ntyvar>8\ntyvar>7\nset>0:2,1:1>0>0>-\nroot>3>+\n",
+            "answers>1\nnumbered\nroot>3>+>1>4>0>0>4\n0>tyvar>0\n1>tyvar>1\n2>tyvar>2\n\
+             3>set>0:0,1:1>2>0>-\n",
+        ),
+    ] {
+        let table = format!("budget>4294967295\n{table}");
+        assert_eq!(listing_in(Form::Numbered, &bytes(&table)), expected);
+    }
 }

@@ -3,7 +3,7 @@
 
 use std::collections::BTreeSet;
 
-use oracle::{damage, gen, reader, Answer};
+use oracle::{damage, gen, reader, Answer, Form};
 
 fn tables() -> u64 {
     match std::env::var("ORACLE_TABLES") {
@@ -63,7 +63,7 @@ fn generated_tables_are_answered() {
     for index in 0..tables() {
         let (profile, table) = gen::mixed(1_000_000, index);
         let name = gen::PROFILES[profile].name;
-        let answers = oracle::answers_of(&table);
+        let answers = oracle::answers_of(Form::Plain, &table);
         let answers = answers.unwrap_or_else(|fault| panic!("{name} {index}: {fault:?}"));
         assert_eq!(answers.len(), table.roots.len());
         for answer in &answers {
@@ -79,7 +79,9 @@ fn generated_tables_are_answered() {
 fn equal_tables_have_equal_listings() {
     for index in 0..200 {
         let text = gen::mixed(2_000_000, index).1.to_text();
-        assert_eq!(oracle::listing(&text), oracle::listing(&text));
+        for form in Form::ALL {
+            assert_eq!(oracle::listing(form, &text), oracle::listing(form, &text));
+        }
     }
 }
 
