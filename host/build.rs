@@ -13,10 +13,18 @@ const ARCHIVE: &str = "libsignatures.a";
 const PROGRAM: &str = "OBJCOPY";
 /// The crate's wrapper of the exports.
 const WRAPPER: &str = "../rust/pekonusit/src/raw.rs";
-const EXPORTS: [&str; 3] = [
+const EXPORTS: [&str; 5] = [
     "pekonusit_canon",
+    "pekonusit_canon_numbered",
     "pekonusit_canon_root",
     "pekonusit_recheck",
+    "pekonusit_recheck_numbered",
+];
+/// What an earlier library may lack, and what stands for it then: nobody asks it
+/// for that, but the wrapper names it.
+const PLAIN: [(&str, &str); 2] = [
+    ("pekonusit_canon_numbered", "pekonusit_canon"),
+    ("pekonusit_recheck_numbered", "pekonusit_recheck"),
 ];
 
 fn main() {
@@ -39,6 +47,7 @@ fn link(archive: &Path) -> Result<(), String> {
     }
     let out = PathBuf::from(env::var_os("OUT_DIR").expect("cargo sets OUT_DIR"));
     rename(archive, &out.join("libbefore.a"))?;
+    complete(archive)?;
     wrap(&out.join("before.rs"))?;
     println!("cargo:rustc-link-search=native={}", out.display());
     println!("cargo:rustc-link-lib=static=before");
@@ -62,11 +71,25 @@ fn rename(archive: &Path, to: &Path) -> Result<(), String> {
     }
 }
 
+/// Tells the linker what stands for the exports that the archive lacks.
+fn complete(archive: &Path) -> Result<(), String> {
+    let bytes = fs::read(archive).map_err(|fault| format!("{}: {fault}", archive.display()))?;
+    for (name, plain) in PLAIN {
+        let mut parts = bytes.windows(name.len());
+        if !parts.any(|part| part == name.as_bytes()) {
+            let [name, plain] = [name, plain].map(renamed);
+            println!("cargo:rustc-link-arg=-Wl,--defsym={name}={plain}");
+        }
+    }
+    Ok(())
+}
+
 /// The wrapper over those names. What is said of its file as a whole cannot
-/// stand in a text that is included.
+/// stand in a text that is included, and its form is the crate's.
 fn wrap(to: &Path) -> Result<(), String> {
     let whole = fs::read_to_string(WRAPPER).map_err(|fault| format!("{WRAPPER}: {fault}"))?;
     let lines = whole.lines().filter(|line| !line.starts_with("//!"));
     let text: String = lines.map(|line| renamed(line) + "\n").collect();
+    let text = text.replace("crate::listing::Form", "pekonusit::Form");
     fs::write(to, text).map_err(|fault| format!("{}: {fault}", to.display()))
 }

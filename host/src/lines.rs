@@ -2,12 +2,8 @@
 
 use std::collections::HashMap;
 
-use oracle::{listing, Root, RootAnswer};
-
-/// The first line of a listing.
-pub fn first_line(roots: usize) -> String {
-    format!("answers\t{roots}\n")
-}
+use oracle::listing::{self, heading};
+use oracle::{Form, Root, RootAnswer};
 
 /// The line of a root that is refused.
 pub fn refused_root(root: Root, number: u32) -> String {
@@ -16,11 +12,11 @@ pub fn refused_root(root: Root, number: u32) -> String {
 
 /// The Rust's lines of a root.
 pub fn of_rust(root: &RootAnswer) -> Vec<u8> {
-    let listing = listing::write(std::slice::from_ref(root));
-    listing[first_line(1).len()..].to_vec()
+    let listing = listing::write(Form::Plain, std::slice::from_ref(root));
+    listing[heading(Form::Plain, 1).len()..].to_vec()
 }
 
-/// The lines of each root, without the first line.
+/// The lines of each root, without those before the first.
 pub fn blocks(listing: &[u8]) -> Vec<&[u8]> {
     let mut starts = Vec::new();
     let mut at = 0;
@@ -33,6 +29,46 @@ pub fn blocks(listing: &[u8]) -> Vec<&[u8]> {
     let ends = starts.iter().skip(1).copied().chain([listing.len()]);
     let bounds = starts.iter().zip(ends);
     bounds.map(|(&start, end)| &listing[start..end]).collect()
+}
+
+/// What canon_numbered writes where canon writes this listing: the line that
+/// says so, and in each root its variables by the order of their lines.
+pub fn numbered(plain: &[u8]) -> Vec<u8> {
+    let blocks = blocks(plain);
+    let mut text = heading(Form::Numbered, blocks.len()).into_bytes();
+    for block in blocks {
+        number_root(block, &mut text);
+    }
+    text
+}
+
+fn number_root(block: &[u8], text: &mut Vec<u8>) {
+    let mut next = 0;
+    for line in block.split_inclusive(|&b| b == b'\n') {
+        match variable(line) {
+            Some(word) => {
+                text.extend_from_slice(word);
+                text.extend(format!("\t{next}\n").into_bytes());
+                next += 1;
+            }
+            None => text.extend_from_slice(line),
+        }
+    }
+}
+
+/// How many variables a root has.
+pub fn variables(block: &[u8]) -> usize {
+    let lines = block.split_inclusive(|&b| b == b'\n');
+    lines.filter_map(variable).count()
+}
+
+/// The line of a variable up to its number.
+fn variable(line: &[u8]) -> Option<&[u8]> {
+    let fields: Vec<&[u8]> = line.split(|&b| b == b'\t').collect();
+    match fields[..] {
+        [node, b"tyvar", _] => Some(&line[..node.len() + b"\ttyvar".len()]),
+        _ => None,
+    }
 }
 
 /// The fields of a block's first line.

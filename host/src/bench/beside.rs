@@ -3,7 +3,7 @@
 use std::hint::black_box;
 use std::time::Duration;
 
-use oracle::{gen, listing, reader, RootAnswer, Table};
+use oracle::{gen, listing, reader, Form, RootAnswer, Table};
 
 use super::clock::{median, ratio, time, told, RUNS};
 use super::libraries::{self, Each};
@@ -11,9 +11,9 @@ use super::parts::joined;
 use crate::calls::{Canon, Library, OUTPUT};
 use crate::report::rows::{print_heads, print_row};
 
-const SIZES: [usize; 3] = [50, 500, 2_000];
+pub const SIZES: [usize; 3] = [50, 500, 2_000];
 /// Tables of each profile and size.
-const TABLES: u64 = 3;
+pub const TABLES: u64 = 3;
 
 /// Medians of one table.
 struct Times {
@@ -54,7 +54,7 @@ fn table(single: bool) {
     ];
     let earlier = libraries::heads(["before", "ours / before"]);
     print_heads(&[&heads[..], &earlier].concat());
-    let mut canon = Canon::new();
+    let mut canon = Canon::new(Form::Plain);
     for size in SIZES {
         let mut all = Vec::new();
         for (number, profile) in gen::PROFILES.iter().enumerate() {
@@ -103,8 +103,8 @@ fn measure(canon: &mut Canon, table: &Table) -> Option<Times> {
     // Once beforehand; a table that is refused is left out, and the text that
     // is timed answers as the oracle does.
     libraries::listing(canon, &text)?;
-    let written = |answers: Vec<RootAnswer>| listing::write(&answers);
-    let theirs = oracle::answers_of(table).ok().map(written);
+    let written = |answers: Vec<RootAnswer>| listing::write(Form::Plain, &answers);
+    let theirs = oracle::answers_of(Form::Plain, table).ok().map(written);
     assert_eq!(timed::answers(table).map(written), theirs);
     let mut ours = Each::<Vec<Duration>>::default();
     let (mut whole, mut run) = (Vec::new(), Vec::new());
@@ -133,5 +133,5 @@ fn measure(canon: &mut Canon, table: &Table) -> Option<Times> {
 pub fn rust_listing(text: &[u8]) -> Option<Vec<u8>> {
     let table = reader::read(text).ok()?;
     let answers = timed::answers(&table)?;
-    Some(listing::write(&answers))
+    Some(listing::write(Form::Plain, &answers))
 }

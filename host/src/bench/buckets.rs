@@ -5,6 +5,8 @@
 use std::hint::black_box;
 use std::time::Duration;
 
+use oracle::Form;
+
 use super::beside::rust_listing;
 use super::clock::{median, time, told, RUNS};
 use super::libraries::{self, Each};
@@ -70,7 +72,7 @@ pub fn run() {
 }
 
 fn row(nodes: &Nodes, count: usize) {
-    let mut canon = Canon::new();
+    let mut canon = Canon::new(Form::Plain);
     let [close, apart] =
         [nodes.close, nodes.apart].map(|make| Subject::new(&mut canon, make(count)));
     assert_eq!(close.sizes(), apart.sizes(), "they are of one shape");

@@ -4,6 +4,8 @@
 use std::hint::black_box;
 use std::time::Duration;
 
+use oracle::Form;
+
 use super::beside::rust_listing;
 use super::clock::{median, time, told, RUNS};
 use super::libraries::{self, Each};
@@ -46,7 +48,7 @@ pub fn run() {
 }
 
 fn row(levels: u32) {
-    let mut canon = Canon::new();
+    let mut canon = Canon::new(Form::Plain);
     let ladder = Subject::new(&mut canon, ladder(levels));
     let times = measure(&mut canon, &ladder);
     let ours = times.ours[0];

@@ -1,6 +1,6 @@
 //! Tables of a size, put together from small ones.
 
-use oracle::{gen, listing, reader, Answer, Table};
+use oracle::{gen, listing, reader, Answer, Form, Table};
 
 use crate::calls::OUTPUT;
 use crate::input::join::behind;
@@ -37,7 +37,8 @@ pub fn joined(profile: usize, size: usize, part: u64, single: bool) -> Option<Ta
     if single {
         whole.roots.drain(..kept);
     }
-    while listing::write(&oracle::answers_of(&whole).ok()?).len() > OUTPUT {
+    while listing::write(Form::Plain, &oracle::answers_of(Form::Plain, &whole).ok()?).len() > OUTPUT
+    {
         whole.roots.pop()?;
     }
     Some(whole)
@@ -45,7 +46,7 @@ pub fn joined(profile: usize, size: usize, part: u64, single: bool) -> Option<Ta
 
 /// All its roots are answered, here too.
 fn answered(table: &Table) -> bool {
-    oracle::answers_of(table).is_ok_and(|roots| {
+    oracle::answers_of(Form::Plain, table).is_ok_and(|roots| {
         roots.iter().all(|root| {
             matches!(root.answer, Answer::Shown(_)) && within(root.measures, NEAR_NODES, NEAR_CELLS)
         })

@@ -7,7 +7,7 @@ use std::process::{Command, Stdio};
 use std::time::{Duration, Instant};
 
 use oracle::rng::Rng;
-use oracle::{gen, Table};
+use oracle::{gen, Form, Table};
 
 use crate::calls::{Canon, Input, Recheck, OUTPUT};
 use crate::input::edits;
@@ -50,10 +50,10 @@ fn made(index: u64) -> Option<(Vec<u8>, Vec<u8>)> {
     let new = edits::of_table(&mut rng, &old);
     let [old, new] = [old, new].map(|table| Table::to_text(&table));
     let mut out = vec![0; OUTPUT];
-    let length = Canon::new().bare(&old, &mut out).ok()?;
+    let length = Canon::new(Form::Plain).bare(&old, &mut out).ok()?;
     let listing = out[..length].to_vec();
     let input = Input { old, new, listing };
-    let length = Recheck::new().bare(&input, &mut out).ok()?;
+    let length = Recheck::new(Form::Plain).bare(&input, &mut out).ok()?;
     out.truncate(length);
     Some((input.text(), out))
 }

@@ -3,7 +3,7 @@
 
 use std::time::Duration;
 
-use oracle::{listing, reader, Answer, Table};
+use oracle::{listing, reader, Answer, Form, Table};
 
 use super::beside::rust_listing;
 use super::clock::{ratio, told};
@@ -46,10 +46,10 @@ impl Subject {
 /// The Rust's listing where the oracle says that it returns: the text that is
 /// timed has no limit.
 fn of_rust(table: &Table) -> Option<Vec<u8>> {
-    let answers = oracle::answers_of(table).ok()?;
+    let answers = oracle::answers_of(Form::Plain, table).ok()?;
     let mut roots = answers.iter();
     let returns = roots.all(|root| matches!(root.answer, Answer::Shown(_)));
-    returns.then(|| listing::write(&answers))
+    returns.then(|| listing::write(Form::Plain, &answers))
 }
 
 /// The Rust's time, and ours beside it.

@@ -5,7 +5,7 @@ use std::hint::black_box;
 use std::time::Duration;
 
 use oracle::table::Entry;
-use oracle::{gen, reader, Table};
+use oracle::{gen, reader, Form, Table};
 
 use super::clock::{median, ratio, time, told, RUNS};
 use super::libraries::{self, Each};
@@ -44,7 +44,7 @@ pub fn run() {
 
 fn row(name: &str, new: &Table, most: usize) {
     let (old, redone) = touching(new, most);
-    let (mut canon, mut recheck) = (Canon::new(), Recheck::new());
+    let (mut canon, mut recheck) = (Canon::new(Form::Plain), Recheck::new(Form::Plain));
     let (old, new_text) = (old.to_text(), new.to_text());
     let Some(listing) = libraries::listing(&mut canon, &old) else {
         return;

@@ -24,7 +24,9 @@ pub const LONGEST: usize = 131_072;
 pub fn asked_by_canon() -> [usize; 4] {
     static LENGTHS: OnceLock<[usize; 4]> = OnceLock::new();
     *LENGTHS.get_or_init(|| {
-        asked(|draft, [table, arena, work]| canon(&[], &mut [], draft, table, arena, work))
+        asked(|draft, [table, arena, work]| {
+            canon(Form::Plain, &[], &mut [], draft, table, arena, work)
+        })
     })
 }
 
@@ -33,7 +35,19 @@ pub fn asked_by_recheck() -> [usize; 5] {
     static LENGTHS: OnceLock<[usize; 5]> = OnceLock::new();
     *LENGTHS.get_or_init(|| {
         asked(|draft, [older, table, arena, work]| {
-            recheck(&[], &[], &[], &mut [], draft, older, table, arena, work)
+            let (form, none) = (Form::Plain, &[]);
+            recheck(
+                form,
+                none,
+                none,
+                none,
+                &mut [],
+                draft,
+                older,
+                table,
+                arena,
+                work,
+            )
         })
     })
 }

@@ -3,6 +3,7 @@
 #[cfg(before)]
 mod before;
 mod canon;
+mod form;
 mod library;
 mod outcome;
 mod recheck;

@@ -1,14 +1,16 @@
-//! recheck.
+//! recheck and recheck_numbered.
 
+use oracle::Form;
 use pekonusit::{lengths, raw};
 
 #[cfg(before)]
 use super::before;
+use super::form::of_crate;
 use super::library::Library;
 use super::outcome::{of_any_call, outcome, Outcome, Refused};
 use super::scratch::{Checked, Scratch, Slice};
 
-/// What it is lent, in this order.
+/// What each is lent, in this order.
 const SLICES: [Slice; 5] = [
     ("draft", lengths::DRAFT),
     ("old", lengths::TABLE),
@@ -17,7 +19,7 @@ const SLICES: [Slice; 5] = [
     ("work", lengths::WORK),
 ];
 
-/// What recheck reads.
+/// What they read.
 #[derive(Clone, Default)]
 pub struct Input {
     pub old: Vec<u8>,
@@ -26,28 +28,31 @@ pub struct Input {
 }
 
 impl Input {
-    /// As the program recheck reads it.
+    /// As the programs read it.
     pub fn text(&self) -> Vec<u8> {
         let next = b"next\n";
         [&self.old[..], next, &self.new, next, &self.listing].concat()
     }
 }
 
-/// recheck with scratch of its own.
+/// The call for listings in one form, with scratch of its own.
 pub struct Recheck {
+    pub form: Form,
     pub scratch: Scratch<5>,
 }
 
 impl Recheck {
-    pub fn new() -> Self {
+    pub fn new(form: Form) -> Self {
         let scratch = Scratch::new(SLICES);
-        Recheck { scratch }
+        Recheck { form, scratch }
     }
 
     /// The listing of the new table, with the roots that are kept or redone.
     pub fn recheck(&mut self, input: &Input, out: &mut [u8]) -> Checked {
-        let call =
-            |scratch: &mut Scratch<5>, out: &mut [u8]| recheck(Library::Ours, scratch, input, out);
+        let form = self.form;
+        let call = |scratch: &mut Scratch<5>, out: &mut [u8]| {
+            recheck(Library::Ours, form, scratch, input, out)
+        };
         let may = |refusal: Refused| match refusal.number {
             10 => refusal.line == 0,
             11 => true,
@@ -62,22 +67,34 @@ impl Recheck {
     }
 
     pub fn bare_of(&mut self, library: Library, input: &Input, out: &mut [u8]) -> Outcome {
-        recheck(library, &mut self.scratch, input, out)
+        recheck(library, self.form, &mut self.scratch, input, out)
     }
 }
 
-fn recheck(library: Library, scratch: &mut Scratch<5>, input: &Input, out: &mut [u8]) -> Outcome {
+fn recheck(
+    library: Library,
+    form: Form,
+    scratch: &mut Scratch<5>,
+    input: &Input,
+    out: &mut [u8],
+) -> Outcome {
+    let form = of_crate(form);
     let Input { old, new, listing } = input;
     outcome(match library {
         Library::Ours => {
             let (draft, [older, table, arena, work]) = scratch.slices();
-            raw::recheck(old, new, listing, out, draft, older, table, arena, work)
+            raw::recheck(
+                form, old, new, listing, out, draft, older, table, arena, work,
+            )
         }
         #[cfg(before)]
         Library::Before => {
             let (draft, [older, table, arena, work]) =
                 scratch.slices_of(before::asked_by_recheck());
-            before::recheck(old, new, listing, out, draft, older, table, arena, work).into()
+            let outcome = before::recheck(
+                form, old, new, listing, out, draft, older, table, arena, work,
+            );
+            outcome.into()
         }
     })
 }

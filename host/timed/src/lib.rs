@@ -16,7 +16,7 @@ mod text;
 
 // What run.rs names as its own crate's.
 #[cfg(text_at_hand)]
-use oracle::{table, Answer, Measures, Node, Shown};
+use oracle::{table, Answer, Form, Measures, Node, Shown};
 
 use oracle::{RootAnswer, Table};
 
@@ -24,7 +24,7 @@ use oracle::{RootAnswer, Table};
 /// outside the text's domain.
 #[cfg(text_at_hand)]
 pub fn answers(table: &Table) -> Option<Vec<RootAnswer>> {
-    run::run(table)
+    run::run(Form::Plain, table)
 }
 
 /// Runs `f` on a thread with a stack that the text's recursion fits in.
