@@ -1,8 +1,10 @@
 //! Tables through canon and through the Rust text, and what they came to.
 
-use oracle::{listing, Answer, RootAnswer, Table};
+use oracle::listing::{self, heading};
+use oracle::{Answer, Form, RootAnswer, Table};
 
 use super::counts::{self, Counts};
+use super::numbered::Numbered;
 use super::verdict::{judge, Verdict};
 use crate::calls::{refused, Canon, OUTPUT};
 use crate::input::join;
@@ -23,26 +25,28 @@ pub struct Comparison {
     /// alone.
     bailed: u64,
     first_alone: u64,
+    numbered: Numbered,
     pub faults: Faults,
 }
 
 impl Comparison {
     pub fn new() -> Self {
         Comparison {
-            canon: Canon::new(),
+            canon: Canon::new(Form::Plain),
             out: vec![0x5a; OUTPUT],
             by_kind: vec![Counts::default(); join::kinds().count()],
             single: 0,
             roots: 0,
             bailed: 0,
             first_alone: 0,
+            numbered: Numbered::new(),
             faults: Faults::default(),
         }
     }
 
     pub fn table(&mut self, kind: usize, name: &str, table: &Table, single: bool) {
         let text = table.to_text();
-        let theirs = match oracle::answers_of(table) {
+        let theirs = match oracle::answers_of(Form::Plain, table) {
             Ok(theirs) => theirs,
             Err(fault) => return self.fail(name, &text, &format!("the oracle says {fault:?}")),
         };
@@ -56,8 +60,10 @@ impl Comparison {
             }
         };
         let blocks = lines::blocks(&ours);
+        let mut verdicts = Vec::new();
         for (block, root) in blocks.iter().zip(&theirs) {
             let verdict = judge(block, root);
+            verdicts.push(verdict);
             self.by_kind[kind].add(verdict, 1);
             self.count_bails(block, root);
             if verdict == Verdict::Differs {
@@ -67,6 +73,9 @@ impl Comparison {
         // Where the Rust has no answer, one call is held against the other.
         if single || too_long(&theirs) > 0 {
             self.singles(name, &text, &theirs, &blocks);
+        }
+        if let Err(fault) = self.numbered.table(table, &text, &ours, &verdicts) {
+            self.fail(name, &text, &fault);
         }
     }
 
@@ -87,7 +96,7 @@ impl Comparison {
     ) -> Result<Vec<u8>, String> {
         watch::begin(text);
         let ours = self.whole(kind, text, theirs)?;
-        let first = lines::first_line(theirs.len());
+        let first = heading(Form::Plain, theirs.len());
         let of_roots = lines::blocks(&ours).len() == theirs.len();
         match of_roots && ours.starts_with(first.as_bytes()) {
             true => Ok(ours),
@@ -110,7 +119,7 @@ impl Comparison {
         }
         self.by_kind[kind].long += 1;
         // Twice theirs, since one with the sorted mark may have more nodes.
-        let room = 2 * listing::write(theirs).len() + too_long(theirs) * ROOT;
+        let room = 2 * listing::write(Form::Plain, theirs).len() + too_long(theirs) * ROOT;
         let mut out = vec![0x5a; room + OUTPUT];
         match self.canon.canon(text, &mut out)? {
             Ok(length) if length > OUTPUT => Ok(out[..length].to_vec()),
@@ -153,6 +162,7 @@ impl Comparison {
             "{} of them have the bailed mark, {} by the first pass alone",
             self.bailed, self.first_alone
         );
+        self.numbered.print();
     }
 }
 

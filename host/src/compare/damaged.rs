@@ -3,7 +3,7 @@
 
 use std::collections::BTreeMap;
 
-use oracle::{damage, reader, Fault, Table};
+use oracle::{damage, reader, Fault, Form, Table};
 
 use super::comparison::Comparison;
 use crate::calls::{refused, Outcome};
@@ -60,7 +60,7 @@ impl Damaged {
     }
 
     fn accepted(&mut self, seed: u64, table: &Table, ours: Outcome) -> Result<(), String> {
-        match oracle::answers_of(table) {
+        match oracle::answers_of(Form::Plain, table) {
             Err(Fault::Outside) => self.outside += 1,
             _ => {
                 let name = format!("damaged {seed}");

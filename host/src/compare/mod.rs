@@ -3,6 +3,7 @@
 mod comparison;
 mod counts;
 mod damaged;
+mod numbered;
 mod verdict;
 
 use oracle::gen;

@@ -40,6 +40,22 @@ pub const VERDICTS: [(Verdict, &str); 11] = [
     (Verdict::Differs, "DIFFERS"),
 ];
 
+impl Verdict {
+    /// The bytes are the same.
+    pub fn is_same(self) -> bool {
+        matches!(self, Verdict::Same | Verdict::SortedSame)
+    }
+
+    pub fn is_sorted(self) -> bool {
+        self == Verdict::SortedSame || self.is_another_order()
+    }
+
+    /// Sorted, and not the same.
+    pub fn is_another_order(self) -> bool {
+        matches!(self, Verdict::SortedOrder | Verdict::SortedElse)
+    }
+}
+
 pub fn judge(block: &[u8], root: &RootAnswer) -> Verdict {
     match (&root.answer, lines::root_refusal(block)) {
         // The Rust's run was cut short, and no limit can be judged by its sizes.
