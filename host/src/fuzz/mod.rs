@@ -3,20 +3,23 @@
 //! reader of tables says, and leave output and scratch as promised.
 
 mod inputs;
+mod numbered;
 
-use oracle::reader;
 use oracle::rng::Rng;
+use oracle::{reader, Form};
 
 use crate::calls::{refused, Canon, Outcome, OUTPUT};
 use crate::report::came::{self, Came, Counts};
 use crate::report::{watch, Faults, Tally};
 use inputs::{KINDS, LONGEST};
+use numbered::Numbered;
 
 struct Fuzz {
     canon: Canon,
     out: Vec<u8>,
     rng: Rng,
     came: [Counts; KINDS.len()],
+    numbered: Numbered,
     faults: Faults,
 }
 
@@ -24,10 +27,11 @@ struct Fuzz {
 pub fn run(count: u64, seed: u64) -> Tally {
     watch::start();
     let mut fuzz = Fuzz {
-        canon: Canon::new(),
+        canon: Canon::new(Form::Plain),
         out: vec![0; LONGEST],
         rng: Rng::new(seed),
         came: Default::default(),
+        numbered: Numbered::new(seed),
         faults: Faults::default(),
     };
     let byte = &mut fuzz.rng;
@@ -62,6 +66,9 @@ impl Fuzz {
         let room = self.room();
         let soiled = self.rng.chance(30, 100);
         let outcome = self.call(text, room, soiled)?;
+        let written = &self.out[..outcome.unwrap_or(0)];
+        let scratch = self.canon.scratch.lent;
+        self.numbered.input(text, scratch, outcome, written)?;
         self.canon.scratch.lend_stated();
         *self.came[kind].entry(came(outcome)).or_default() += 1;
         let Some(outcome) = lent.judged(outcome)? else {
@@ -136,6 +143,7 @@ impl Fuzz {
 
     fn fail(&mut self, text: &[u8], fault: &str) {
         self.canon.scratch.wipe();
+        self.numbered.canon.scratch.wipe();
         let name = format!("fuzz-{}", self.faults.count + 1);
         self.faults.take(&name, text, fault);
     }
@@ -153,6 +161,7 @@ impl Fuzz {
             "{} calls, {} of them with soiled scratch; {} inputs with a scratch that is short or longer than stated",
             counts.calls, counts.soiled, counts.odd
         );
+        self.numbered.print();
     }
 }
 
