@@ -130,7 +130,7 @@ fn altered(rng: &mut Rng, line: &str) -> String {
     let mut fields: Vec<String> = line.split('\t').map(str::to_string).collect();
     let word = |fields: &[String], at: usize| fields.get(at).cloned().unwrap_or_default();
     match (&word(&fields, 0)[..], &word(&fields, 1)[..]) {
-        ("answers", _) => {}
+        ("answers" | "numbered", _) => {}
         ("root", _) => match rng.below(3) {
             0 => fields[3] = rng.pick(&["1", "2"]).to_string(),
             1 => fields[4] = rng.pick(&[0, 9, u64::from(u32::MAX)]).to_string(),

@@ -32,15 +32,17 @@ pub fn print(by_kind: &[Counts]) {
         "redone, altered",
         "DIFFERS",
     ]);
-    let mut all = [0; 8];
     for (name, counts) in join::kinds().zip(by_kind) {
-        let cells = cells(counts);
-        print_row(name, cells);
-        for (sum, cell) in all.iter_mut().zip(cells) {
-            *sum += cell;
-        }
+        print_row(name, cells(counts));
     }
-    print_row("all", all);
+    print_row("all", sums(by_kind));
+}
+
+/// The cells of the last row.
+pub fn sums(by_kind: &[Counts]) -> [u64; 8] {
+    by_kind.iter().map(cells).fold([0; 8], |sums, cells| {
+        std::array::from_fn(|i| sums[i] + cells[i])
+    })
 }
 
 fn cells(counts: &Counts) -> [u64; 8] {

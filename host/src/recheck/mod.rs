@@ -1,14 +1,15 @@
-//! recheck beside what it must answer: pairs of tables that differ in some
-//! entries, with the listing of the old one, with one that was altered, and
-//! with one that is damaged; and damaged tables.
+//! recheck and recheck_numbered beside what they must answer: pairs of tables
+//! that differ in some entries, with the listing of the old one, with one that
+//! was altered, and with one that is damaged; and damaged tables.
 
 mod counts;
 mod damage;
+mod mixed;
 pub mod model;
 mod old;
 
 use oracle::rng::Rng;
-use oracle::{gen, Table};
+use oracle::{gen, Form, Table};
 
 use crate::calls::{refused, Canon, Input, Outcome, Recheck, Refused, OUTPUT};
 use crate::input::edits;
@@ -17,6 +18,7 @@ use crate::lines;
 use crate::report::{came, watch, Faults, Tally};
 use counts::Counts;
 use damage::KINDS;
+use mixed::Mixed;
 use model::Rechecked;
 
 /// Damaged inputs for each pair.
@@ -26,6 +28,7 @@ const TOGETHER: u64 = 4;
 /// Room for every listing here.
 const ROOM: usize = 8 << 20;
 
+/// Of one form.
 struct Rechecking {
     canon: Canon,
     recheck: Recheck,
@@ -41,23 +44,23 @@ struct Rechecking {
 /// Rechecks `count` pairs and more damaged inputs.
 pub fn run(count: u64, seed: u64) -> Tally {
     watch::start();
-    let mut all = Rechecking {
-        canon: Canon::new(),
-        recheck: Recheck::new(),
-        rng: Rng::new(seed),
-        out: vec![0x5a; ROOM],
-        last: Default::default(),
-        by_kind: vec![Counts::default(); join::kinds().count()],
-        came: Default::default(),
-        faults: Faults::default(),
-    };
+    let mut forms = Form::ALL.map(|form| Rechecking::new(form, seed));
+    let mut mixed = Mixed::new();
     for index in 0..count {
         let (kind, old) = table(seed, index);
-        let new = edits::of_table(&mut all.rng, &old);
-        all.tables(kind, [old, new]);
+        let new = edits::of_table(&mut forms[0].rng, &old);
+        let pair = [old, new];
+        if let [Some(plain), Some(numbered)] = forms.each_mut().map(|all| all.tables(kind, &pair)) {
+            mixed.pair([plain, numbered]);
+        }
     }
-    all.print();
-    Tally::of(count * (1 + DAMAGED), all.faults.count)
+    let [plain, numbered] = &forms;
+    plain.print();
+    numbered.print_sums();
+    mixed.print();
+    let faults = plain.faults.count + numbered.faults.count + mixed.faults.count;
+    let inputs = 2 * count * (1 + DAMAGED) + mixed.refused.iter().sum::<u64>();
+    Tally::of(inputs, faults)
 }
 
 /// The `index`th table, with its kind.
@@ -73,8 +76,22 @@ fn table(seed: u64, index: u64) -> (usize, Table) {
 }
 
 impl Rechecking {
-    /// A pair with its listing as it is, with an altered one, and damaged.
-    fn tables(&mut self, kind: usize, pair: [Table; 2]) {
+    fn new(form: Form, seed: u64) -> Self {
+        Rechecking {
+            canon: Canon::new(form),
+            recheck: Recheck::new(form),
+            rng: Rng::new(seed),
+            out: vec![0x5a; ROOM],
+            last: Default::default(),
+            by_kind: vec![Counts::default(); join::kinds().count()],
+            came: Default::default(),
+            faults: Faults::default(),
+        }
+    }
+
+    /// A pair with its listing as it is, with an altered one, and damaged. What
+    /// it was as it is; none where it has no listing.
+    fn tables(&mut self, kind: usize, pair: &[Table; 2]) -> Option<Input> {
         let [old, new] = pair.each_ref().map(Table::to_text);
         let listing = self.listing(&old);
         let mut input = Input {
@@ -85,7 +102,10 @@ impl Rechecking {
         self.by_kind[kind].pairs += 1;
         match listing {
             Ok(listing) => input.listing = listing,
-            Err(fault) => return self.fail(Some(kind), &input, &fault),
+            Err(fault) => {
+                self.fail(Some(kind), &input, &fault);
+                return None;
+            }
         }
         if let Err(fault) = self.pair(kind, &input) {
             self.fail(Some(kind), &input, &fault);
@@ -97,11 +117,12 @@ impl Rechecking {
                 3 => self.rng.below(KINDS.len()),
                 i => i as usize,
             };
-            (KINDS[kind].make)(&mut self.rng, &mut input, &pair);
+            (KINDS[kind].make)(&mut self.rng, &mut input, pair);
             if let Err(fault) = self.damaged(kind, &input) {
                 self.fail(None, &input, &fault);
             }
         }
+        Some(input)
     }
 
     /// canon's listing of a table.
@@ -126,7 +147,7 @@ impl Rechecking {
 
     /// What recheck must answer.
     fn model(&mut self, input: &Input) -> Result<Result<Rechecked, Refused>, String> {
-        model::answer(input, || self.listing(&input.new))
+        model::answer(self.canon.form, input, || self.listing(&input.new))
     }
 
     fn pair(&mut self, kind: usize, input: &Input) -> Result<(), String> {
@@ -260,6 +281,18 @@ impl Rechecking {
             "{} calls, {} of them with soiled scratch and {} with scratch that is short or longer than stated",
             counts.calls, counts.soiled, counts.odd
         );
+    }
+
+    fn print_sums(&self) {
+        let [pairs, long, twelve, kept, redone, ..] = counts::sums(&self.by_kind);
+        println!(
+            "{pairs} pairs once more by recheck_numbered, beside canon_numbered: {kept} roots kept and {redone} redone; {long} of the pairs are 11 at line 0 and {twelve} are 12"
+        );
+        let came = self.came.iter().flatten();
+        let inputs: u64 = came.clone().map(|(_, count)| count).sum();
+        let written: u64 = came.filter(|(came, _)| came.0 == 0).map(|(_, n)| n).sum();
+        let calls = self.recheck.scratch.counts.calls;
+        println!("{inputs} damaged inputs of it, {written} of them written; {calls} calls in all");
     }
 }
 

@@ -1,9 +1,10 @@
-//! What recheck must answer, worked out anew: by the oracle's reader of
-//! tables, a reader of old listings of the host's own, a plain search from
-//! each root, and canon's listing of the new table.
+//! What recheck must answer in either form, worked out anew: by the oracle's
+//! reader of tables, a reader of old listings of the host's own, a plain search
+//! from each root, and canon's listing of the new table.
 
+use oracle::listing::heading;
 use oracle::table::Entry;
-use oracle::{reader, Table};
+use oracle::{reader, Form, Table};
 
 use super::old;
 use crate::calls::{refused, Input, Refused};
@@ -15,20 +16,21 @@ pub struct Rechecked {
     pub redone: Vec<bool>,
 }
 
-/// The answer but for 12 and 20. `fresh` is canon's listing of the new table,
-/// and is asked for only where there is an answer.
+/// The answer but for 12 and 20. `fresh` is canon's listing of the new table in
+/// this form, and is asked for only where there is an answer.
 pub fn answer(
+    form: Form,
     input: &Input,
     fresh: impl FnOnce() -> Result<Vec<u8>, String>,
 ) -> Result<Result<Rechecked, Refused>, String> {
-    let (redone, blocks) = match read(input) {
+    let (redone, blocks) = match read(form, input) {
         Ok(read) => read,
         Err(refusal) => return Ok(Err(refusal)),
     };
     let fresh = fresh()?;
     let afresh = lines::blocks(&fresh);
     let mut text = first_line(&redone);
-    text.extend(lines::first_line(redone.len()).into_bytes());
+    text.extend(heading(form, redone.len()).into_bytes());
     for (i, &redone) in redone.iter().enumerate() {
         text.extend_from_slice(if redone { afresh[i] } else { blocks[i] });
     }
@@ -36,13 +38,13 @@ pub fn answer(
 }
 
 /// Which roots are redone, and the old lines of each.
-fn read(input: &Input) -> Result<(Vec<bool>, Vec<&[u8]>), Refused> {
+fn read(form: Form, input: &Input) -> Result<(Vec<bool>, Vec<&[u8]>), Refused> {
     let old = reader::read(&input.old)?;
     let new = reader::read(&input.new)?;
     if !comparable(&old, &new) {
         return Err(refused(10, 0));
     }
-    let blocks = old::read(new.names.len(), &new.roots, &input.listing);
+    let blocks = old::read(form, new.names.len(), &new.roots, &input.listing);
     let blocks = blocks.map_err(|line| refused(11, line))?;
     Ok((redone(&old, &new), blocks))
 }

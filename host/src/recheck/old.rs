@@ -1,7 +1,7 @@
 //! A second, independent reading of an old listing: the lines of each root,
 //! or the earliest line at fault.
 
-use oracle::Root;
+use oracle::{Form, Root};
 
 use crate::limits::{MEMBERS, NODES};
 
@@ -9,7 +9,12 @@ const TEXT_BYTES: usize = 65_536;
 const CODES: u32 = 32;
 
 /// The lines of each root, for a table of so many names and these roots.
-pub fn read<'a>(names: usize, roots: &[Root], listing: &'a [u8]) -> Result<Vec<&'a [u8]>, u32> {
+pub fn read<'a>(
+    form: Form,
+    names: usize,
+    roots: &[Root],
+    listing: &'a [u8],
+) -> Result<Vec<&'a [u8]>, u32> {
     if listing.len() > TEXT_BYTES {
         return Err(0);
     }
@@ -22,6 +27,9 @@ pub fn read<'a>(names: usize, roots: &[Root], listing: &'a [u8]) -> Result<Vec<&
         ["answers", count] if count == roots.len().to_string() => Some(()),
         _ => None,
     })?;
+    if form == Form::Numbered {
+        reading.take(|fields| (*fields == ["numbered"]).then_some(()))?;
+    }
     let mut blocks = Vec::new();
     for root in roots {
         let from = reading.at;
