@@ -1,7 +1,8 @@
 //! What is expected, held against the second reader of tables and against the
 //! Rust.
 
-use oracle::{reader, Answer, Measures, RootAnswer};
+use oracle::listing::heading;
+use oracle::{reader, Answer, Form, Measures, RootAnswer};
 
 use super::check::same;
 use super::edge::{Edge, Expect};
@@ -20,12 +21,12 @@ pub fn confirm(edge: &Edge) -> Result<(), String> {
     if let Expect::Unasked(_) = edge.expect {
         return Ok(());
     }
-    let Ok(theirs) = oracle::answers_of(&table) else {
+    let Ok(theirs) = oracle::answers_of(edge.form, &table) else {
         return Ok(());
     };
     match &edge.expect {
         Expect::Refused(..) | Expect::Unasked(_) => Ok(()),
-        Expect::Listing(listing) => confirm_listing(listing, &theirs),
+        Expect::Listing(listing) => confirm_listing(edge.form, listing, &theirs),
         Expect::Roots(heads) => {
             for (head, root) in heads.iter().zip(&theirs) {
                 confirm_root(head, root)?;
@@ -36,7 +37,7 @@ pub fn confirm(edge: &Edge) -> Result<(), String> {
 }
 
 /// Root by root, since the Rust refuses none.
-fn confirm_listing(listing: &[u8], theirs: &[RootAnswer]) -> Result<(), String> {
+fn confirm_listing(form: Form, listing: &[u8], theirs: &[RootAnswer]) -> Result<(), String> {
     let blocks = lines::blocks(listing);
     for (block, root) in blocks.iter().zip(theirs) {
         match lines::root_refusal(block) {
@@ -45,7 +46,7 @@ fn confirm_listing(listing: &[u8], theirs: &[RootAnswer]) -> Result<(), String> 
             None => return Err("the Rust's listing is another".to_string()),
         }
     }
-    let first = lines::first_line(theirs.len());
+    let first = heading(form, theirs.len());
     same(
         (blocks.len(), listing.starts_with(first.as_bytes())),
         (theirs.len(), true),

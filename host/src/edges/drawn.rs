@@ -2,7 +2,7 @@
 //! parts, beside the Rust: what is expected is its listing.
 
 use oracle::rng::Rng;
-use oracle::{listing, Answer};
+use oracle::{listing, Answer, Form};
 
 use super::edge::{Edges, Expect, ROOM};
 use crate::input::draft::Draft;
@@ -24,10 +24,10 @@ pub fn drawn(edges: &mut Edges) {
 /// A table with the Rust's listing, if it returns and has sorted no members,
 /// whose order is none of the text's.
 pub fn answered(text: Vec<u8>) -> Option<(Vec<u8>, Vec<u8>)> {
-    let answers = oracle::answers(&text).ok()?;
+    let answers = oracle::answers(Form::Plain, &text).ok()?;
     let told = |answer: &Answer| matches!(answer, Answer::Shown(shown) if !shown.sorted);
     let all = answers.iter().all(|root| told(&root.answer));
-    all.then(|| (text, listing::write(&answers)))
+    all.then(|| (text, listing::write(Form::Plain, &answers)))
 }
 
 /// Rows of unions and rows of intersections in turn, with some other entries

@@ -14,6 +14,7 @@ mod ladders;
 mod marks;
 mod members;
 mod nodes;
+mod numbered;
 mod orders;
 mod outputs;
 mod ranges;
@@ -23,6 +24,8 @@ mod single;
 mod texts;
 mod worked;
 
+use oracle::Form;
+
 use crate::calls::Canon;
 use crate::lines;
 use crate::report::{watch, Tally};
@@ -30,8 +33,8 @@ use check::{refused_with, same, told, writes};
 use confirm::confirm;
 use edge::{Edge, Edges, Expect};
 
-/// The edges of canon, by their subject.
-const SUBJECTS: [fn(&mut Edges); 19] = [
+/// The edges of canon in both forms, by their subject.
+const SUBJECTS: [fn(&mut Edges); 20] = [
     ceilings::text_length,
     ceilings::ceilings,
     form::form,
@@ -51,6 +54,7 @@ const SUBJECTS: [fn(&mut Edges); 19] = [
     index::index,
     drawn::drawn,
     outputs::outputs,
+    numbered::numbered,
 ];
 
 pub fn run() -> Tally {
@@ -60,17 +64,23 @@ pub fn run() -> Tally {
         add(&mut edges);
     }
     let mut tally = Tally::default();
-    let mut canon = Canon::new();
-    for edge in &edges.all {
-        watch::begin(&edge.text);
-        tally.take(&edge.name, try_edge(&mut canon, edge));
+    for form in Form::ALL {
+        of_canon(form, &edges, &mut tally);
     }
-    scratch::soiled(&mut canon, &mut tally);
-    scratch::short(&mut canon, &mut tally);
-    single::single_roots(&mut canon, &mut tally);
+    single::single_roots(&mut Canon::new(Form::Plain), &mut tally);
     recheck::run(&mut tally);
     println!("{} edges", tally.passed + tally.failed);
     tally
+}
+
+fn of_canon(form: Form, edges: &Edges, tally: &mut Tally) {
+    let mut canon = Canon::new(form);
+    for edge in edges.all.iter().filter(|edge| edge.form == form) {
+        watch::begin(&edge.text);
+        tally.take(&edge.name, try_edge(&mut canon, edge));
+    }
+    scratch::soiled(&mut canon, tally);
+    scratch::short(&mut canon, tally);
 }
 
 fn try_edge(canon: &mut Canon, edge: &Edge) -> Result<(), String> {

@@ -1,11 +1,12 @@
 //! Scratch that is soiled or short.
 
 use oracle::rng::Rng;
+use oracle::Form;
 
 use super::check::{refused_with, writes};
 use super::index::one_bucket;
 use super::ladders;
-use super::texts::{k1, K1_LISTING};
+use super::texts::{in_form, k1, K1_LISTING};
 use crate::calls::{Canon, OUTPUT};
 use crate::input::draft::{tabs, Draft};
 use crate::input::ladders::ladder;
@@ -34,7 +35,8 @@ pub fn soiled(canon: &mut Canon, tally: &mut Tally) {
             canon.scratch.soil(&mut rng, all);
             let outcome = canon.canon(&text, &mut out);
             let name = format!("{name}, soiled scratch, all of it: {all}");
-            tally.take(&name, writes(outcome, &out, &tabs(listing)));
+            let listing = in_form(canon.form, listing);
+            tally.take(&name, writes(outcome, &out, &listing));
         }
     }
 }
@@ -55,8 +57,10 @@ pub fn short(canon: &mut Canon, tally: &mut Tally) {
                 let name = format!("{slice} of {length}, {what}");
                 let outcome = canon.canon(text, &mut out);
                 tally.take(&name, refused_with(outcome, 20, 0));
-                let outcome = canon.canon_root(text, 9, 0, &mut out[..0]);
-                tally.take(&format!("{name}, one root"), refused_with(outcome, 20, 0));
+                if canon.form == Form::Plain {
+                    let outcome = canon.canon_root(text, 9, 0, &mut out[..0]);
+                    tally.take(&format!("{name}, one root"), refused_with(outcome, 20, 0));
+                }
                 canon.scratch.lend_stated();
             }
         }
@@ -64,7 +68,8 @@ pub fn short(canon: &mut Canon, tally: &mut Tally) {
         let mut out = vec![0xa5; OUTPUT];
         let outcome = canon.canon(&k1(), &mut out);
         let name = format!("{slice} of one more");
-        tally.take(&name, writes(outcome, &out, &tabs(K1_LISTING)));
+        let listing = in_form(canon.form, K1_LISTING);
+        tally.take(&name, writes(outcome, &out, &listing));
         canon.scratch.lend_stated();
     }
 }

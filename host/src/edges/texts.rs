@@ -2,7 +2,11 @@
 
 use std::fmt::Write as _;
 
+use oracle::listing::heading;
+use oracle::Form;
+
 use crate::input::draft::{tabs, Draft};
+use crate::lines;
 
 pub const BUDGET: &str = "budget>1\n";
 
@@ -13,6 +17,15 @@ pub fn k1() -> Vec<u8> {
 
 pub const K1_LISTING: &str =
     "answers>1\nroot>1>+>2>9>0>0>4\n0>tyvar>0\n1>prim>0\n2>union>0,1\n3>fn>0>2\n";
+
+/// A listing in a form, by its plain one.
+pub fn in_form(form: Form, plain: &str) -> Vec<u8> {
+    let plain = tabs(plain);
+    match form {
+        Form::Plain => plain,
+        Form::Numbered => lines::numbered(&plain),
+    }
+}
 
 /// Names of 255 bytes and one of `last` bytes.
 pub fn long_names(last: usize) -> Vec<u8> {
@@ -34,9 +47,9 @@ fn nested_lines(id: u32, code: u32, depth: u32) -> String {
     text
 }
 
-/// A table whose listing has `length` bytes: roots in two chains of lists,
-/// whose lines are of slightly different lengths.
-pub fn of_length(length: usize) -> (Vec<u8>, Vec<u8>) {
+/// A table whose listing in a form has `length` bytes: roots in two chains of
+/// lists, whose lines are of slightly different lengths.
+pub fn of_length(form: Form, length: usize) -> (Vec<u8>, Vec<u8>) {
     let mut draft = Draft::default();
     let chains = [0, 3].map(|code| {
         let prim = draft.prim(code);
@@ -46,7 +59,7 @@ pub fn of_length(length: usize) -> (Vec<u8>, Vec<u8>) {
         let lines = lines.map(|(depth, id)| (id, nested_lines(id, code, depth)));
         lines.collect::<Vec<_>>()
     });
-    let mut listing = String::from("answers>64\n");
+    let mut listing = heading(form, 64);
     for (chain, depth, count) in parts_of(length - listing.len(), &chains) {
         let (id, lines) = &chains[chain][depth];
         for _ in 0..count {

@@ -1,4 +1,6 @@
-//! A call of recheck, and what is expected of it.
+//! A call of recheck in a form, and what is expected of it.
+
+use oracle::Form;
 
 use crate::calls::{refused, Input, Recheck};
 use crate::edges::check::{refused_with, writes};
@@ -15,9 +17,34 @@ pub struct Edges<'a> {
 }
 
 impl Edges<'_> {
+    pub fn form(&self) -> Form {
+        self.recheck.form
+    }
+
+    /// Two tables and a plain listing, which gets the line that the form has.
+    pub fn input(&self, old: &str, new: &str, listing: &str) -> Input {
+        let listing = match (self.form(), listing.split_once('\n')) {
+            (Form::Numbered, Some((first, rest))) => format!("{first}\nnumbered\n{rest}"),
+            _ => listing.to_string(),
+        };
+        input(old, new, &listing)
+    }
+
+    pub fn same(&self, table: &str, listing: &str) -> Input {
+        self.input(table, table, listing)
+    }
+
+    /// Where a line of a plain listing stands then.
+    pub fn line(&self, line: u32) -> u32 {
+        match self.form() {
+            Form::Numbered if line > 1 => line + 1,
+            _ => line,
+        }
+    }
+
     pub fn refused(&mut self, name: &str, input: &Input, number: u32, line: u32) {
         watch::begin(&input.text());
-        let expected = model::answer(input, || Ok(Vec::new()));
+        let expected = model::answer(self.form(), input, || Ok(Vec::new()));
         let expected = expected.map(|answer| answer.map(|answer| answer.text));
         if expected != Ok(Err(refused(number, line))) {
             let doubt = format!("what is expected is in doubt: {expected:?}");
@@ -60,18 +87,15 @@ impl Edges<'_> {
     /// or kept.
     pub fn listing(&mut self, listing: &str, line: Option<u32>) {
         let name: String = listing.chars().take(80).collect();
-        let input = same("budget>1\nname>a\nname>b\nprim>0\nroot>0>+\n", listing);
+        let input = self.same("budget>1\nname>a\nname>b\nprim>0\nroot>0>+\n", listing);
         match line {
-            Some(line) => self.refused(&name, &input, 11, line),
+            Some(line) => self.refused(&name, &input, 11, self.line(line)),
             None => self.kept(&name, &input),
         }
     }
 }
 
-pub fn same(table: &str, listing: &str) -> Input {
-    input(table, table, listing)
-}
-
+/// Two tables and a listing as it is.
 pub fn input(old: &str, new: &str, listing: &str) -> Input {
     Input {
         old: tabs(old),

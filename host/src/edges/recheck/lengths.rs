@@ -1,6 +1,8 @@
 //! The lengths of what is lent: the output and the scratch.
 
-use super::edge::{same, Edges, ROOT};
+use oracle::Form;
+
+use super::edge::{Edges, ROOT};
 use crate::calls::{Input, OUTPUT};
 use crate::edges::check::{refused_with, told};
 use crate::edges::texts::of_length;
@@ -8,7 +10,7 @@ use crate::edges::texts::of_length;
 /// 65,536 bytes of a listing are in form, and 12 counts the first line too.
 pub fn listings(edges: &mut Edges) {
     for length in [65_000, 65_535, 65_536] {
-        let input = of_listing(length);
+        let input = of_listing(edges.form(), length);
         edges.kept(&format!("a listing of {length} bytes"), &input);
         let mut out = vec![0xa5; OUTPUT];
         let outcome = edges.recheck.recheck(&input, &mut out);
@@ -20,12 +22,16 @@ pub fn listings(edges: &mut Edges) {
         };
         edges.tally.take(&name, fits);
     }
-    edges.refused("a listing of 65,537 bytes", &of_listing(65_537), 11, 0);
+    // Of either form: its length comes first.
+    for form in Form::ALL {
+        let input = of_listing(form, 65_537);
+        edges.refused("a listing of 65,537 bytes", &input, 11, 0);
+    }
 }
 
 /// A listing of so many bytes, and its table twice.
-fn of_listing(length: usize) -> Input {
-    let (table, listing) = of_length(length);
+fn of_listing(form: Form, length: usize) -> Input {
+    let (table, listing) = of_length(form, length);
     Input {
         old: table.clone(),
         new: table,
@@ -36,7 +42,7 @@ fn of_listing(length: usize) -> Input {
 /// Refusal 20, before all else.
 pub fn short_scratch(edges: &mut Edges) {
     let good = "budget>1\nprim>0\nroot>0>+\n";
-    let whole = same(good, &format!("answers>1\n{ROOT}1\n0>prim>0\n"));
+    let whole = edges.same(good, &format!("answers>1\n{ROOT}1\n0>prim>0\n"));
     for (i, (slice, stated)) in edges.recheck.scratch.stated.into_iter().enumerate() {
         for length in [stated - 1, stated / 2, 0] {
             for (what, input) in [("in form", &whole), ("no bytes", &Input::default())] {

@@ -1,6 +1,6 @@
 //! Refusal 11: the form of an old listing.
 
-use super::edge::{same, Edges, ROOT};
+use super::edge::{Edges, ROOT};
 
 pub fn first_lines(edges: &mut Edges) {
     let rest = format!("{ROOT}1\n0>prim>0\n");
@@ -19,19 +19,11 @@ pub fn first_lines(edges: &mut Edges) {
     for (listing, line) in [("", 1), ("answers>1", 1), ("answers>1\n", 2)] {
         edges.listing(listing, Some(line));
     }
-    edges.kept("no roots", &same("budget>1\n", "answers>0\n"));
-    edges.refused(
-        "no roots, a surplus line",
-        &same("budget>1\n", "answers>0\n\n"),
-        11,
-        2,
-    );
-    edges.refused(
-        "no roots, a surplus byte",
-        &same("budget>1\n", "answers>0\n0"),
-        11,
-        2,
-    );
+    edges.kept("no roots", &edges.same("budget>1\n", "answers>0\n"));
+    for (name, surplus) in [("a surplus line", "\n"), ("a surplus byte", "0")] {
+        let input = edges.same("budget>1\n", &format!("answers>0\n{surplus}"));
+        edges.refused(&format!("no roots, {name}"), &input, 11, edges.line(2));
+    }
 }
 
 pub fn root_lines(edges: &mut Edges) {
