@@ -35,6 +35,7 @@ host stack                  the stack that the calls take on deep inputs
 host bench                  our time per root beside the Rust's, and recheck's
 host bench ladders          our time for ladders beside the Rust's, alone
 host bench buckets          our time for nodes of one bucket, alone
+host bench numbered         canon_numbered's beside canon's, alone
 host bench recheck          recheck's alone
 ";
 
@@ -69,6 +70,7 @@ fn job(arguments: &[&str]) -> Option<Job> {
         ["bench"] => Some(Box::new(bench::run)),
         ["bench", "ladders"] => Some(Box::new(bench::laddered)),
         ["bench", "buckets"] => Some(Box::new(bench::bucketed)),
+        ["bench", "numbered"] => Some(Box::new(bench::numbered)),
         ["bench", "recheck"] => Some(Box::new(bench::rechecked)),
         [name, count] => counted(name, count, "0"),
         [name, count, seed] => counted(name, count, seed),

@@ -1,12 +1,13 @@
 //! Our time per root beside the Rust's on the same tables, on ladders, and on
-//! nodes of one bucket; recheck's beside canon's. Where an earlier library is
-//! linked, its time beside ours too.
+//! nodes of one bucket; canon_numbered's and recheck's beside canon's. Where an
+//! earlier library is linked, its time beside ours too.
 
 mod beside;
 mod buckets;
 mod clock;
 mod ladders;
 mod libraries;
+mod numbered;
 mod parts;
 mod processes;
 mod subject;
@@ -21,6 +22,8 @@ pub fn run() -> Tally {
     println!();
     buckets::run();
     println!();
+    numbered();
+    println!();
     rechecked()
 }
 
@@ -33,6 +36,13 @@ pub fn laddered() -> Tally {
 /// The part of buckets alone.
 pub fn bucketed() -> Tally {
     buckets::run();
+    Tally::default()
+}
+
+/// canon_numbered's part alone.
+pub fn numbered() -> Tally {
+    // The tables are chosen by what the Rust answers.
+    timed::on_large_stack(numbered::run);
     Tally::default()
 }
 

@@ -7,8 +7,9 @@ mod paint;
 
 use std::thread;
 
+use oracle::listing::heading;
 use oracle::table::Entry;
-use oracle::{gen, reader, Table};
+use oracle::{gen, reader, Form, Table};
 
 use crate::calls::{Canon, Input, Outcome, Recheck};
 use crate::lines;
@@ -30,9 +31,12 @@ pub fn run() -> Tally {
     joined.expect("the measuring thread ends")
 }
 
+/// The bytes that canon and recheck take, and those of the numbered calls.
+type Used = [usize; 4];
+
 struct Measuring {
-    canon: Canon,
-    recheck: Recheck,
+    /// In each form.
+    calls: [(Canon, Recheck); 2],
     out: Vec<u8>,
     tally: Tally,
     worst: usize,
@@ -40,8 +44,7 @@ struct Measuring {
 
 fn measure_all() -> Tally {
     let mut all = Measuring {
-        canon: Canon::new(),
-        recheck: Recheck::new(),
+        calls: Form::ALL.map(|form| (Canon::new(form), Recheck::new(form))),
         out: vec![0; 1 << 20],
         tally: Tally::default(),
         worst: 0,
@@ -51,6 +54,8 @@ fn measure_all() -> Tally {
         "outcome",
         "canon, stack bytes",
         "recheck, stack bytes",
+        "canon_numbered",
+        "recheck_numbered",
     ]);
     for deep in inputs() {
         let (used, outcome) = all.measure(&deep.text);
@@ -59,9 +64,9 @@ fn measure_all() -> Tally {
     }
     for (number, profile) in gen::PROFILES.iter().enumerate() {
         let tables = (0..SEEDS).map(|seed| gen::table(number, seed).to_text());
-        let most = tables.fold([0; 2], |most, text| {
+        let most = tables.fold(Used::default(), |most, text| {
             let (used, _) = all.measure(&text);
-            [most[0].max(used[0]), most[1].max(used[1])]
+            std::array::from_fn(|i| most[i].max(used[i]))
         });
         all.row(&format!("{SEEDS} tables of {}", profile.name), "", most);
     }
@@ -72,28 +77,38 @@ fn measure_all() -> Tally {
 }
 
 impl Measuring {
-    /// What canon and recheck take, where recheck redoes every root.
-    fn measure(&mut self, text: &[u8]) -> ([usize; 2], Outcome) {
-        let input = all_redone(text);
-        let recheck = measured(|| self.recheck.bare(&input, &mut self.out)).0;
-        let (canon, outcome) = measured(|| self.canon.bare(text, &mut self.out));
-        ([canon, recheck], outcome)
+    /// What the calls take, where recheck redoes every root; and what canon,
+    /// which is called last, came to.
+    fn measure(&mut self, text: &[u8]) -> (Used, Outcome) {
+        let out = &mut self.out;
+        let mut outcome = Ok(0);
+        let mut measure = |(canon, recheck): &mut (Canon, Recheck)| {
+            let input = all_redone(canon.form, text);
+            let again = measured(|| recheck.bare(&input, out)).0;
+            let used;
+            (used, outcome) = measured(|| canon.bare(text, out));
+            [used, again]
+        };
+        let [plain, numbered] = &mut self.calls;
+        let numbered = measure(numbered);
+        let plain = measure(plain);
+        ([plain[0], plain[1], numbered[0], numbered[1]], outcome)
     }
 
-    fn row(&mut self, name: &str, told: &str, used: [usize; 2]) {
-        let [canon, recheck] = used.map(|bytes| bytes.to_string());
-        print_row(name, [told, &canon, &recheck]);
-        let most = used[0].max(used[1]);
+    fn row(&mut self, name: &str, told: &str, used: Used) {
+        let bytes = used.map(|bytes| bytes.to_string());
+        print_row(name, [told.to_string()].into_iter().chain(bytes));
+        let most = used.into_iter().max().unwrap_or(0);
         self.tally.count(most < MOST);
         self.worst = self.worst.max(most);
     }
 }
 
 /// An old table whose roots' entries differ, and an old listing in form.
-fn all_redone(text: &[u8]) -> Input {
+fn all_redone(form: Form, text: &[u8]) -> Input {
     let new = reader::read(text).unwrap_or_default();
     let mut old = new.clone();
-    let mut listing = lines::first_line(new.roots.len());
+    let mut listing = heading(form, new.roots.len());
     for root in &new.roots {
         old.entries[root.id as usize] = Entry::Prim(31);
         listing.push_str(&lines::refused_root(*root, 6));
