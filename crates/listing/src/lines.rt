@@ -225,8 +225,8 @@ fn contents(out: &mut [u8], arena: &[u32], work: &[u32], at: u32, x: u32, v: u32
     at
 }
 
-// What node x shows as its variable, if it is one: its own number, or how many variables stand before it. Equal nodes are one, so that each
-// `tyvar` line is another variable's.
+// What node x shows as its variable, if it is one: its own number, or how many variables stand before it (TypeArena::normalize_vars). Equal
+// nodes are one, so that each `tyvar` line is another variable's.
 fn shown_variable(arena: &[u32], form: Form, x: u32, before: u32) -> u32
     ensures { λ r. ⌜ ShowsVariable (now (arena .entry)) form x before r ⌝ }
 {

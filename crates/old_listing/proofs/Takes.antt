@@ -38,7 +38,8 @@ use Rattle.old_listing.specs.declared.Old.{Old}
 use Rattle.old_listing.specs.declared.Old.the-variants.{InForm, Refused}
 use Rattle.old_listing.specs.declared.Reached.{Reached}
 use Rattle.old_listing.specs.declared.Reached.the-variants.{At as AtV, Fault}
-use Rattle.old_listing.specs.Olds.{asked, row, NodeFits, NodeLine, Ready, takingAt, nextOf, Goes, Nodes, Count, After, TakesRoot, RootsAt, RootWord, Roots, IsAnswers, IsNumbered, TakesHeader, Read}
+use Rattle.old_listing.specs.Olds.{asked, row, NodeFits, NodeLine, Ready, takingAt, nextOf, Goes, Nodes, Count, After, TakesRoot, RootsAt, RootWord}
+use Rattle.old_listing.specs.Olds.{Roots, IsAnswers, IsNumbered, TakesHeader, Read}
 use mathlib.Core.Option.{Option, none, some}
 
 -- a line's row, or none

@@ -17,7 +17,8 @@ ghost use lib.ListN.{length};
 ghost use Rattle.rules.specs.Types.{nodeKinds};
 ghost use Rattle.rules.specs.Listing.{headKinds};
 ghost use Rattle.text.specs.Reads.{FieldRoom, Row};
-ghost use Rattle.old_listing.specs.Olds.{SetFits, MembersFit, NodeFits, NodeLine, Ready, Nodes, Within, ForRoot, Count, After, TakesRoot, RootWord, Roots, IsAnswers, IsNumbered, TakesHeader, Read};
+ghost use Rattle.old_listing.specs.Olds.{SetFits, MembersFit, NodeFits, NodeLine, Ready, Nodes, Within, ForRoot, Count, After};
+ghost use Rattle.old_listing.specs.Olds.{TakesRoot, RootWord, Roots, IsAnswers, IsNumbered, TakesHeader, Read};
 
 pub enum Old {
     InForm,
