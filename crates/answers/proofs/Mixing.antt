@@ -7,7 +7,7 @@ use mathlib.Core.List.{List, [], _∷_, _++_, append-assoc, append-nil}
 use lib.ListN.{length, take, drop, length-append}
 use lib.Dec.{eqb}
 use borrow.Author.Tests.{eq-eqb, ne-eqb}
-use Rattle.cells.specs.Part.{if, cell, part, run}
+use Rattle.cells.specs.Part.{if, cell, run}
 use Rattle.cells.proofs.Parts.{run-length, run-snoc}
 use Rattle.layout.specs.Layout.{redoneAt}
 use Rattle.rules.specs.Plain.{ascii, both, joined}

@@ -19,8 +19,8 @@ use Rattle.rules.specs.Canonicalizer.{shown, refusedWith}
 use Rattle.laws.specs.Sound.{mostRootText}
 use Rattle.rules.specs.declared.Form.{Form}
 use Rattle.rules.specs.declared.Form.the-variants.{Plain, Numbered}
-use Rattle.rules.specs.Variables.{variableOf, withVariable, normalize-vars, nodesIn}
-use Rattle.laws.proofs.Numbering.{Sort, is-variable, no-variable, sort-of, numbered-at, number-low}
+use Rattle.rules.specs.Variables.{normalize-vars, nodesIn}
+use Rattle.laws.proofs.Numbering.{with-keeps, variable-under, numbered-at, number-low}
 use Rattle.laws.proofs.NumberedAnswers.{numbered-length, numbered-rooted}
 use Rattle.rules.specs.Listing.{numberedText, headKinds, headText, walk, renumberField, renumberDyn, renumber, nodeText, nodeTexts, answerText, answersText}
 use Rattle.laws.proofs.Admitting.{both-parts}
@@ -249,20 +249,6 @@ pub record Modest (ns : List Node) : Type 0 where
   pub numbers : (x : ℕ) → Numbers (encode (nodeAt ns x))
   pub below : (i : ℕ) → i < length ns → Under i (children (nodeAt ns i))
 
--- with other variables that are numbers, a row is as long and has numbers only
-module _ (f : ℕ → ℕ) where
-  with-length : (n : Node) → Sort n → length (encode (withVariable f n)) ≡ length (encode n)
-  with-length n (is-variable v) = refl
-  with-length n (no-variable e same) = ap (λ (m : Node). length (encode m)) (same f)
-
-  with-numbers : ((v : ℕ) → v < suc greatest → f v < suc greatest) → (n : Node) → Sort n → Numbers (encode n) → Numbers (encode (withVariable f n))
-  with-numbers low n (is-variable v) u = (u .0, (low v (u .1 .0), tt))
-  with-numbers low n (no-variable e same) u = subst (λ (m : Node). Numbers (encode m)) (sym (same f)) u
-
-variable-number : (n : Node) → Sort n → Numbers (encode n) → Numbers (variableOf n)
-variable-number n (is-variable v) u = u .1
-variable-number n (no-variable e same) u = subst Numbers (sym e) tt
-
 sum-alike : (n : ℕ) (f g : ℕ → ℕ) → ((y : ℕ) → f y ≡ g y) → sumTo n f ≡ sumTo n g
 sum-alike zero f g h = refl
 sum-alike (suc n) f g h = ap₂ (λ (a b : ℕ). a + b) (sum-alike n f g h) (h n)
@@ -273,14 +259,16 @@ modest-in Plain ns x b = b
 modest-in Numbered ns x b =
     let long = numbered-length ns x in
     let rows : (y : ℕ) → rowLength (normalize-vars ns x) y ≡ rowLength ns y =
-    λ y. ap (λ (n : Node). length (encode n)) (numbered-at ns x y) ∙ with-length _ (nodeAt ns y) (sort-of (nodeAt ns y)) in
-    let low = number-low ns x (suc greatest) (λ y. variable-number (nodeAt ns y) (sort-of (nodeAt ns y)) (b .numbers y)) in
+    λ y. ap (λ (n : Node). length (encode n)) (numbered-at ns x y)
+    ∙ with-keeps (λ (n : Node). length (encode n) ≡ rowLength ns y) _ (λ v e. e) (nodeAt ns y) refl in
+    let words : Node → Type 0 = λ n. Numbers (encode n) in
+    let low = number-low ns x (suc greatest) (λ y. variable-under words (suc greatest) (λ v u. u .1 .0) (nodeAt ns y) (b .numbers y)) in
     record {
       few = omega (arith, b .few);
       words =
           let z = sum-alike (length ns) (rowLength (normalize-vars ns x)) (rowLength ns) rows in
           let e = ap (λ (k : ℕ). sumTo k (rowLength (normalize-vars ns x))) long in omega (arith, b .words);
-      numbers = λ y. subst (λ (n : Node). Numbers (encode n)) (sym (numbered-at ns x y)) (with-numbers _ low (nodeAt ns y) (sort-of (nodeAt ns y)) (b .numbers y));
+      numbers = λ y. subst words (sym (numbered-at ns x y)) (with-keeps words _ (λ v u. (u .0, (low v (u .1 .0), tt))) (nodeAt ns y) (b .numbers y));
       below = numbered-rooted ns x (record { is = b .below }) .is;
     }
 

@@ -3,7 +3,7 @@
 use mathlib.Core.Path.{_≡_, refl, sym, subst}
 use mathlib.Core.Logic.{_↔_}
 use mathlib.Core.Bool.{true}
-use Prim.Native.Nat.{ℕ, suc, _≤_, _<_}
+use Prim.Native.Nat.{ℕ, suc, _<_}
 use native.Mathlib.Omega.{arith}
 use mathlib.Core.List.{List, []}
 use lib.ListN.{length, getD, take, length-map}
@@ -13,7 +13,7 @@ use Rattle.rules.specs.Text.{greatest}
 use Rattle.rules.specs.Table.{Table, accepted, tableOf}
 use Rattle.rules.specs.Types.{Node, TyVar, children, nodeAt}
 use Rattle.rules.specs.Canonicalizer.{Shown, Answer, shown, refusedWith, firstPass, readerOf, answerOf}
-use Rattle.rules.specs.Variables.{variableOf, free-type-vars, numberAmong, withVariable, normalize-vars, nodesIn, answerIn}
+use Rattle.rules.specs.Variables.{free-type-vars, numberAmong, normalize-vars, nodesIn, answerIn}
 use Rattle.rules.specs.Listing.{walk}
 use Rattle.rules.specs.declared.Polarity.{Polarity}
 use Rattle.rules.specs.declared.Form.{Form}
@@ -23,7 +23,7 @@ use Rattle.laws.specs.Variables.{variablesAmong}
 use Rattle.laws.proofs.Storing.{Rooted}
 use Rattle.laws.proofs.Forming.{Formed, ShownFormed, ShowsFormed, ShowsStored, Answers, shows, stops, answer-formed}
 use Rattle.laws.proofs.ReadRows.{accepted-formed}
-use Rattle.laws.proofs.Numbering.{Sort, is-variable, no-variable, sort-of, children-with, one-number, upFrom, numbers-count, numbered-again, numbered-none}
+use Rattle.laws.proofs.Numbering.{with-keeps, variable-under, children-with, one-number, upFrom, numbers-count, numbered-again, numbered-none}
 use Rattle.laws.proofs.Numbering.{numbered-walk, numbered-at, number-low, in-lines, number-in-lines, numbered-apart}
 
 pub plain-answer : (a : Answer) → answerIn Plain a ≡ a
@@ -44,18 +44,11 @@ numbered-rooted ns x r = record {
 
 module _ (names : ℕ) where
   -- a variable's number is one that a line can have
-  variable-low : (n : Node) → Sort n → Formed names n → Under (suc greatest) (variableOf n)
-  variable-low n (is-variable v) h = (omega arith, tt)
-  variable-low n (no-variable e same) h = subst (Under (suc greatest)) (sym e) tt
-
-  formed-with : (f : ℕ → ℕ) → ((v : ℕ) → v < suc greatest → f v < suc greatest) → (n : Node) → Sort n → Formed names n → Formed names (withVariable f n)
-  formed-with f low n (is-variable v) h = let l = low v (omega arith) in omega arith
-  formed-with f low n (no-variable e same) h = subst (Formed names) (sym (same f)) h
-
   numbered-formed : (ns : List Node) (x : ℕ) → ((y : ℕ) → Formed names (nodeAt ns y)) → (y : ℕ) → Formed names (nodeAt (normalize-vars ns x) y)
   numbered-formed ns x h y =
-      let low : (y : ℕ) → Under (suc greatest) (variableOf (nodeAt ns y)) = λ y. variable-low (nodeAt ns y) (sort-of (nodeAt ns y)) (h y) in
-      subst (Formed names) (sym (numbered-at ns x y)) (formed-with _ (number-low ns x (suc greatest) low) (nodeAt ns y) (sort-of (nodeAt ns y)) (h y))
+      let low = number-low ns x (suc greatest) (λ z. variable-under (Formed names) (suc greatest) (λ v g. omega arith) (nodeAt ns z) (h z)) in
+      subst (Formed names) (sym (numbered-at ns x y))
+      (with-keeps (Formed names) _ (λ v g. let l = low v (omega arith) in omega arith) (nodeAt ns y) (h y))
 
   shown-in : (form : Form) {passes ops x : ℕ} {ns : List Node} → ShownFormed names passes ops ns x → ShownFormed names passes ops (nodesIn form ns x) x
   shown-in Plain s = s

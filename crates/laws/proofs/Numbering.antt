@@ -9,7 +9,7 @@ use Prim.Native.Nat.{ℕ, zero, suc, _+_, _≤_, _<_}
 use native.Mathlib.Omega.{arith}
 use native.Mathlib.Nat.{not-suc-le-zero}
 use mathlib.Core.List.{List, [], _∷_, _++_, map, foldl, append-nil, append-assoc, map-append}
-use mathlib.Core.Option.{Option, some, Option·getD}
+use mathlib.Core.Option.{some, Option·getD}
 use lib.ListN.{length, getD, take, drop, length-append, List·getD-map}
 use lib.Seq.{split-at}
 use lib.Dec.{eqb}
@@ -30,9 +30,9 @@ use Rattle.laws.proofs.Storing.{Rooted}
 use Rattle.laws.proofs.Rooting.{All}
 use Rattle.laws.proofs.Filtering.{under-both}
 use Rattle.laws.proofs.Spreading.{Spread, spread-none, spread-more, spread-few}
-use Rattle.laws.proofs.Containing.{contains-first, contains-later, last-itself, new-itself, new-other}
+use Rattle.laws.proofs.Containing.{contains-first, contains-later, new-itself}
 use Rattle.laws.proofs.Positions.{position-below, position-is}
-use Rattle.laws.proofs.Walking.{contains-left, by-first, all-has, Steps, Walked, walk-each, walk-by, walk-steps, steps-closed}
+use Rattle.laws.proofs.Walking.{contains-left, by-first, all-has, Steps, walk-by, walk-steps, steps-closed}
 
 -- a node is a variable, or it has none
 pub data Sort : Node → Type 0 where
@@ -52,21 +52,33 @@ sort-of (Neg a) = no-variable refl (λ f. refl)
 sort-of Bottom = no-variable refl (λ f. refl)
 sort-of Top = no-variable refl (λ f. refl)
 
+-- what holds of a node holds of it with another variable, if that is so for variables
+keeps-turn : (P : Node → Type 0) (f : ℕ → ℕ) → ((v : ℕ) → P (TyVar v) → P (TyVar (f v))) → (n : Node) → Sort n → P n → P (withVariable f n)
+keeps-turn P f h n (is-variable v) p = h v p
+keeps-turn P f h n (no-variable e same) p = subst P (sym (same f)) p
+
+pub with-keeps : (P : Node → Type 0) (f : ℕ → ℕ) → ((v : ℕ) → P (TyVar v) → P (TyVar (f v))) → (n : Node) → P n → P (withVariable f n)
+with-keeps P f h n p = keeps-turn P f h n (sort-of n) p
+
+-- and what holds of variables holds of a node's
+variable-turn : (P : Node → Type 0) (k : ℕ) → ((v : ℕ) → P (TyVar v) → v < k) → (n : Node) → Sort n → P n → Under k (variableOf n)
+variable-turn P k h n (is-variable v) p = (h v p, tt)
+variable-turn P k h n (no-variable e same) p = subst (Under k) (sym e) tt
+
+pub variable-under : (P : Node → Type 0) (k : ℕ) → ((v : ℕ) → P (TyVar v) → v < k) → (n : Node) → P n → Under k (variableOf n)
+variable-under P k h n p = variable-turn P k h n (sort-of n) p
+
 -- other variables, the same children
 module _ (f : ℕ → ℕ) where
-  children-turn : (n : Node) → Sort n → children (withVariable f n) ≡ children n
-  children-turn n (is-variable v) = refl
-  children-turn n (no-variable e same) = ap children (same f)
-
   pub children-with : (n : Node) → children (withVariable f n) ≡ children n
-  children-with n = children-turn n (sort-of n)
+  children-with n = with-keeps (λ (m : Node). children m ≡ children n) f (λ v e. e) n refl
 
-  variable-turn : (n : Node) → Sort n → variableOf (withVariable f n) ≡ map f (variableOf n)
-  variable-turn n (is-variable v) = refl
-  variable-turn n (no-variable e same) = ap variableOf (same f) ∙ e ∙ sym (ap (map f) e)
+  mapped-turn : (n : Node) → Sort n → variableOf (withVariable f n) ≡ map f (variableOf n)
+  mapped-turn n (is-variable v) = refl
+  mapped-turn n (no-variable e same) = ap variableOf (same f) ∙ e ∙ sym (ap (map f) e)
 
   variable-with : (n : Node) → variableOf (withVariable f n) ≡ map f (variableOf n)
-  variable-with n = variable-turn n (sort-of n)
+  variable-with n = mapped-turn n (sort-of n)
 
   pub with-at : (ns : List Node) (x : ℕ) → nodeAt (map (withVariable f) ns) x ≡ withVariable f (nodeAt ns x)
   with-at ns x = List·getD-map (withVariable f) ns x Bottom

@@ -24,7 +24,7 @@ use Rattle.rules.specs.Listing.{walk, renumber, renumberField, renumberDyn, nod
 use Rattle.laws.specs.Variables.{variablesAmong}
 use Rattle.laws.proofs.Rows.{by-kind}
 use Rattle.laws.proofs.Walking.{steps-closed, walk-few}
-use Rattle.laws.proofs.Numbering.{Sort, is-variable, no-variable, sort-of, children-with, numbered-at, numbered-walk, among-last, among-few, number-in-lines}
+use Rattle.laws.proofs.Numbering.{Sort, is-variable, no-variable, sort-of, with-keeps, children-with, numbered-at, numbered-walk, among-last, among-few, number-in-lines}
 use Rattle.lang_ty.proofs.Words.{tyvar-at}
 use Rattle.cells.specs.Sum.{Sum}
 use Rattle.text.specs.Keywords.{wordAt, kindAt, kindsIn}
@@ -100,10 +100,6 @@ kind-renumbered f (Named n a) = refl
 kind-renumbered f (Neg a) = refl
 kind-renumbered f Bottom = refl
 kind-renumbered f Top = refl
-
-kind-with : (f : ℕ → ℕ) (n : Node) → Sort n → kindOf n ≡ kindOf (withVariable f n)
-kind-with f n (is-variable v) = refl
-kind-with f n (no-variable e same) = ap kindOf (sym (same f))
 
 kind-known : (n : Node) → kindOf n < length nodeKinds
 kind-known (TyVar x) = omega arith
@@ -193,7 +189,7 @@ node-written : {arena work b : List ℕ} {x v kind p q₁ q₂ q₃ q₄ r : ℕ
     → Arena arena q ns → x < length ns → Wrote (nodeText k (renumber (numberOf work) (withVariable (λ _. v) (nodeAt ns x)))) p o o₅ r
 node-written {work = work} {b} {x} {v} {kind} {ns = ns} k a s kd ks c d e ar lt =
     let n = withVariable (λ _. v) (nodeAt ns x) in
-    let z : kind ≡ kindOf n = kd .is ar lt ∙ kind-with (λ _. v) (nodeAt ns x) (sort-of (nodeAt ns x)) in
+    let z : kind ≡ kindOf n = kd .is ar lt ∙ with-keeps (λ (m : Node). kindOf (nodeAt ns x) ≡ kindOf m) (λ _. v) (λ u e. e) (nodeAt ns x) refl in
     let known : kind < 11 = let h = kind-known n in omega arith in
     let word = wrote-as (c .is) (word-of b 11 kind ks known ∙ ap (λ (j : ℕ). getD nodeKinds j noKind .word) (z ∙ kind-renumbered (numberOf work) n)) in
     wrote-as (wrote-more (wrote-more (wrote-more (wrote-more a s) word) (d .is ar lt)) e) (node-text k (renumber (numberOf work) n))

@@ -11,7 +11,7 @@ use Rattle.rules.specs.Ceilings.{mostText}
 use Rattle.rules.specs.Text.{lineFeed, pieces, parted, decimal, lineText}
 use Rattle.rules.specs.Table.{Pair, Root, Table, entryOf, kids, Result, accepted, refused, then, tableOf}
 use Rattle.rules.specs.declared.Form.{Form}
-use Rattle.rules.specs.declared.Form.the-variants.{Plain, Numbered}
+use Rattle.rules.specs.declared.Form.the-variants.{Plain}
 use Rattle.rules.specs.Listing.{rootText, rootTextOf, answersText, listingText, oldListing}
 
 -- 12: "the text to be written is longer than the lent output"
