@@ -74,7 +74,23 @@ const ROOTS: [(&str, &str, &str); 14] = [
     ),
 ];
 
+/// README's show that swaps two fields, and its listing in each form.
+const SWAP: &[u8] = include_bytes!("../../../examples/swap-show.table");
+const SWAPPED: [(Form, &[u8]); 2] = [
+    (
+        Form::Plain,
+        include_bytes!("../../../examples/swap-show.listing"),
+    ),
+    (
+        Form::Numbered,
+        include_bytes!("../../../examples/swap-show.numbered"),
+    ),
+];
+
 pub fn numbered(edges: &mut Edges) {
+    for (form, listing) in SWAPPED {
+        edges.fits(form, "the show that swaps", SWAP, listing);
+    }
     for (name, entries, lines) in ROOTS {
         let last = entries.lines().count() - 1;
         let text = format!("budget>4294967295\nname>a\nname>b\n{entries}root>{last}>+\n");
