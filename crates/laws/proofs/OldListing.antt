@@ -1,4 +1,5 @@
--- An old listing in form is the line `answers` and its roots' lines, one after another, byte by byte. Assumes nothing.
+-- An old listing in form is the line `answers` and its roots' lines, one after another, byte by byte; and it is in one form only (`other-refused`).
+-- Assumes nothing.
 use mathlib.Core.Path.{_≡_, refl, sym, ap, ap₂, _∙_}
 use mathlib.Core.Bool.{Bool, true, false}
 use Prim.Native.Nat.{ℕ, zero, suc, _+_, _-_, _*_, _/_, _%_, _≤_, _<_}
@@ -286,3 +287,58 @@ in-form form names roots l texts e =
           ∙ sym (append-assoc (headText (answersHead ∷ length roots ∷ [])) (numberedText form) (joined texts));
       many = t .many;
     }
+
+-- the form that a listing does not have
+abbrev pub otherForm : Form → Form
+otherForm Plain = Numbered
+otherForm Numbered = Plain
+
+-- where there was a line, there is one
+next-again : {A : Type 0} {a : A} {r : Result A} (k : ℕ) (ps : List (List ℕ)) (f g : List ℕ → List (List ℕ) → Result A)
+    → ((p : List ℕ) (qs : List (List ℕ)) → f p qs ≡ accepted a → g p qs ≡ r) → nextLine k ps f ≡ accepted a → nextLine k ps g ≡ r
+next-again k [] f g h e = refused-accepted e
+next-again k (p ∷ []) f g h e = refused-accepted e
+next-again k (p ∷ q ∷ qs) f g h e = h p (q ∷ qs) e
+
+module _ (names : ℕ) where
+  -- a listing from its second line on
+  abbrev fromSecond : List ℕ → List (List ℕ) → Taking
+  fromSecond p ps = record { text = []; line = 2; rest = p ∷ ps }
+
+  -- the line `numbered` is no root's
+  numbered-refused : (roots : List Root) (q : List ℕ) (qs : List (List ℕ)) → takeRoots names roots (fromSecond (ascii "numbered") (q ∷ qs)) ≡ refused 11 2
+  unfolding pieces rowOf
+  numbered-refused [] q qs = refl
+  numbered-refused (r ∷ rs) q qs = refl
+
+  no-root : (roots : List Root) (p q : List ℕ) (qs : List (List ℕ)) → eqList p (ascii "numbered") ≡ true
+      → takeRoots names roots (fromSecond p (q ∷ qs)) ≡ refused 11 2
+  no-root roots p q qs t =
+      ap (λ (l : List ℕ). takeRoots names roots (fromSecond l (q ∷ qs))) (eqList-true p (ascii "numbered") t) ∙ numbered-refused roots q qs
+
+  -- what stands after the line `answers`
+  abbrev behindAnswers : Form → List Root → List (List ℕ) → Result (List (List ℕ))
+  behindAnswers form roots ps = then (takeNumbered form (record { text = []; line = 2; rest = ps })) (λ (c : Taking). takeRoots names roots c)
+
+  other-behind : (form : Form) (roots : List Root) (ps texts : List (List ℕ)) → behindAnswers form roots ps ≡ accepted texts
+      → behindAnswers (otherForm form) roots ps ≡ refused 11 2
+  other-behind Plain roots [] texts e = refl
+  other-behind Plain roots (p ∷ []) texts e = refl
+  other-behind Plain roots (p ∷ q ∷ qs) texts e =
+      by-test (λ (x : Result Taking). then x (λ (c : Taking). takeRoots names roots c) ≡ refused 11 2) (eqList p (ascii "numbered")) _ _
+      (λ t. refused-accepted (sym (no-root roots p q qs t) ∙ e)) (λ t. refl)
+  other-behind Numbered roots [] texts e = refused-accepted e
+  other-behind Numbered roots (p ∷ []) texts e = refused-accepted e
+  other-behind Numbered roots (p ∷ q ∷ qs) texts e =
+      by-test (λ (x : Result Taking). then x (λ (c : Taking). takeRoots names roots c) ≡ accepted texts → takeRoots names roots (fromSecond p (q ∷ qs)) ≡ refused 11 2)
+      (eqList p (ascii "numbered")) _ _ (λ t f. no-root roots p q qs t) (λ t f. refused-accepted f) e
+
+  -- "recheck refuses a mixture of numbered and plain listings. Refusals: 11 for that mixture, at the header's line"
+  pub other-refused : (form : Form) (roots : List Root) (l : List ℕ) (texts : List (List ℕ)) → oldListing form names roots l ≡ accepted texts
+      → oldListing (otherForm form) names roots l ≡ refused 11 2
+  unfolding oldListing
+  other-refused form roots l texts e =
+      let s = not-stopped 11 0 (ltb mostText (length l)) _ e in
+      rw (s .0) (next-again 1 (pieces lineFeed l) _ _ (λ p ps f.
+      let t = passed 11 1 (isAnswers (length roots) (rowOf headKinds p)) _ f in
+      rw (t .0) (other-behind form roots ps texts (t .1))) (s .1))

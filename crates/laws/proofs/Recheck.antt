@@ -1,6 +1,7 @@
 -- Rechecks, from the bytes that one is given to the bytes that it gives: which roots are redone (`redone-exactly`), that each other root's lines
 -- are copied (`kept-copied`), that a listing that canon gave becomes the one that canon gives now (`fresh`), that rechecks compose
--- (`recheck-composes`), and that with nothing edited all is kept (`same-tables-all-kept`). Assumes nothing.
+-- (`recheck-composes`), that with nothing edited all is kept (`same-tables-all-kept`), and that a listing is taken in one form only
+-- (`mixture-refused`). Assumes nothing.
 use mathlib.Core.Path.{_≡_, refl, sym, ap, ap₂, _∙_, subst}
 use mathlib.Core.Logic.{_↔_}
 use mathlib.Core.Bool.{Bool, true, false}
@@ -16,7 +17,7 @@ use Rattle.cells.proofs.Choices.{true-false}
 use Rattle.rules.specs.Plain.{ascii, joined}
 use Rattle.rules.specs.Ceilings.{mostText}
 use Rattle.rules.specs.Text.{tab, lineFeed, pieces, parted, lineText}
-use Rattle.rules.specs.Table.{Root, Table, Result, accepted, then, tableOf}
+use Rattle.rules.specs.Table.{Root, Table, Result, accepted, refused, then, tableOf}
 use Rattle.rules.specs.declared.Form.{Form}
 use Rattle.rules.specs.Listing.{rootTextOf, answersText, listingText, oldListing}
 use Rattle.rules.specs.Calls.{fits, canon, comparable, redone, redoneWord, rechecked, recheckText, recheck}
@@ -25,7 +26,7 @@ use Rattle.laws.proofs.Chains.{same-differs, redone-flag}
 use Rattle.laws.proofs.Local.{alike, text-local}
 use Rattle.laws.proofs.Printed.{Over, pieces-at}
 use Rattle.laws.proofs.PrintedListing.{over-by, line-free, line-pieces, printed-listing}
-use Rattle.laws.proofs.OldListing.{comes, passed, not-stopped, parted-pieces, in-form}
+use Rattle.laws.proofs.OldListing.{comes, passed, not-stopped, parted-pieces, in-form, otherForm, other-refused}
 use Rattle.laws.proofs.Admitting.{Every}
 
 -- a text's first line, its words, and what stands after it
@@ -361,3 +362,12 @@ module _ (form : Form) where
       (words-kept t (t .roots)) (lines-kept t (t .roots) (r .texts) (shape .many))
       ∙ ap (λ (x : List ℕ). parted tab (map (λ (r : Root). ascii "kept") (t .roots)) ++ (lineFeed ∷ x)) (sym (shape .is))
       ∙ sym (append-assoc (parted tab (map (λ (r : Root). ascii "kept") (t .roots))) (lineFeed ∷ []) l)
+
+  -- A listing that recheck takes is none for recheck_numbered, and the other way round: "11 for that mixture, at the header's line"
+  pub mixture-refused : (o n l : List ℕ) (room room′ : ℕ) (text : List ℕ) → recheck form o n l room ≡ accepted text
+      → recheck (otherForm form) o n l room′ ≡ refused 11 2
+  unfolding recheck
+  mixture-refused o n l room room′ text e =
+      let r = recheck-accepted o n l room text e in
+      let c = r .rechecked in
+      rw (r .old-table, r .new-table, c .alike, other-refused (length (r .new .names)) form (r .new .roots) l (c .texts) (c .in-form))
