@@ -1,20 +1,20 @@
--- The answers of roots in either form: they are in the form of a listing, and what a plain listing shows is the answer as it is. And the laws of
--- request 1, of each root of each table that is accepted (`numbered-well`). Assumes nothing.
-use mathlib.Core.Path.{_≡_, refl, sym, subst}
+-- The answers of roots in either form: they are in the form of a listing, what a plain listing shows is the answer as it is, and nothing but
+-- variables differs (`lines-in`). And the laws of request 1, of each root of each table that is accepted (`numbered-well`). Assumes nothing.
+use mathlib.Core.Path.{_≡_, refl, sym, ap, subst}
 use mathlib.Core.Logic.{_↔_}
 use mathlib.Core.Bool.{true}
 use Prim.Native.Nat.{ℕ, suc, _<_}
 use native.Mathlib.Omega.{arith}
-use mathlib.Core.List.{List, []}
+use mathlib.Core.List.{List, [], _∷_, _++_}
 use lib.ListN.{length, getD, take, length-map}
 use Rattle.cells.specs.Placed.{Under}
-use Rattle.rules.specs.Plain.{contains}
+use Rattle.rules.specs.Plain.{contains, flag}
 use Rattle.rules.specs.Text.{greatest}
 use Rattle.rules.specs.Table.{Table, accepted, tableOf}
 use Rattle.rules.specs.Types.{Node, TyVar, children, nodeAt}
 use Rattle.rules.specs.Canonicalizer.{Shown, Answer, shown, refusedWith, firstPass, readerOf, answerOf}
 use Rattle.rules.specs.Variables.{free-type-vars, numberAmong, normalize-vars, nodesIn, answerIn}
-use Rattle.rules.specs.Listing.{walk}
+use Rattle.rules.specs.Listing.{rootHead, headText, walk, nodeTexts, answerText}
 use Rattle.rules.specs.declared.Polarity.{Polarity}
 use Rattle.rules.specs.declared.Form.{Form}
 use Rattle.rules.specs.declared.Form.the-variants.{Plain, Numbered}
@@ -66,6 +66,19 @@ module _ (names : ℕ) where
   pub formed-in : (form : Form) (a : Answer) → Answers (ShowsStored names) a → Answers (ShowsFormed names) (answerIn form a)
   formed-in form (shown a) (shows s) = shows (shown-in form (s .0))
   formed-in form (refusedWith k) (stops r) = stops r
+
+-- the walk is the same in either form
+walk-in : (form : Form) (ns : List Node) (x : ℕ) → walk (nodesIn form ns x) x ≡ walk ns x
+walk-in Plain ns x = refl
+walk-in Numbered ns x = numbered-walk ns x x
+
+-- So a root's lines are the same but for its variables: its own line, then the same nodes in the same order, with the same numbers for children
+pub lines-in : (form : Form) (id s : ℕ) (a : Shown) → answerText id s (answerIn form (shown a))
+    ≡ headText (rootHead ∷ id ∷ s ∷ a .passes ∷ a .operations ∷ flag (a .sorted) ∷ flag (a .bailed) ∷ length (walk (a .nodes) (a .root)) ∷ [])
+    ++ nodeTexts (nodesIn form (a .nodes) (a .root)) (walk (a .nodes) (a .root)) 0 (walk (a .nodes) (a .root))
+lines-in form id s a =
+    ap (λ (w : List ℕ). headText (rootHead ∷ id ∷ s ∷ a .passes ∷ a .operations ∷ flag (a .sorted) ∷ flag (a .bailed) ∷ length w ∷ [])
+    ++ nodeTexts (nodesIn form (a .nodes) (a .root)) w 0 w) (walk-in form (a .nodes) (a .root))
 
 -- what request 1 asks of the nodes of root x
 pub record NumberedWell (ns : List Node) (x : ℕ) : Type 0 where

@@ -24,13 +24,14 @@ use Rattle.rules.specs.Listing.{walk, renumber, renumberField, renumberDyn, nod
 use Rattle.laws.specs.Variables.{variablesAmong}
 use Rattle.laws.proofs.Rows.{by-kind}
 use Rattle.laws.proofs.Walking.{steps-closed, walk-few}
-use Rattle.laws.proofs.Numbering.{Sort, is-variable, no-variable, sort-of, with-keeps, children-with, numbered-at, numbered-walk, among-last, among-few, number-in-lines}
+use Rattle.laws.proofs.Numbering.{Sort, is-variable, no-variable, sort-of, with-keeps, children-with, numbered-at, among-last, among-few, number-in-lines}
+use Rattle.laws.proofs.NumberedAnswers.{lines-in}
 use Rattle.lang_ty.proofs.Words.{tyvar-at}
 use Rattle.cells.specs.Sum.{Sum}
 use Rattle.text.specs.Keywords.{wordAt, kindAt, kindsIn}
 use Rattle.lang_ty.specs.declared.arena.Pass.{Pass}
 use Rattle.lang_ty.specs.declared.arena.Shown.{Shown}
-use Rattle.lang_ty.specs.Nodes.{Arena, Word, Kind}
+use Rattle.lang_ty.specs.Nodes.{Arena, Word, Kind, shownOf}
 use Rattle.listing.specs.Writes.{Wrote, WroteKeyword}
 use Rattle.listing.specs.Walks.{orderAt, numberOf, Numbered, Walks}
 use Rattle.listing.specs.Printed.{headLine, contentsText, WroteContents, varsBefore, shownVariable, ShowsVariable, CountsVariable, WroteNode, WroteNodes, WroteRoot}
@@ -300,11 +301,6 @@ module _ {arena work : List ℕ} {form : Form} {n p q vars k : ℕ} {o o₁ : Li
         let c = nb .count in wrote-as (l .so ar b nb) (ap (nodeTexts (nodesIn form ns x) (walk ns x) 0) (take-all k (walk ns x) (omega arith)));
   }
 
--- the walk is the same in either form
-walk-in : (form : Form) (ns : List Node) (x : ℕ) → walk (nodesIn form ns x) x ≡ walk ns x
-walk-in Plain ns x = refl
-walk-in Renumbered ns x = numbered-walk ns x x
-
 pub root-lines-is : {arena work work₁ : List ℕ} {form : Form} {id sign n p q r : ℕ} {s : Shown} {o o₁ o₂ : List ℕ} → Walks arena work (s .node) work₁ n
     → Wrote (headLine id sign s n) p o o₁ q
     → WroteNodes arena work₁ form n q o₁ o₂ r → WroteRoot arena work form id sign s p o o₂ r
@@ -314,5 +310,5 @@ root-lines-is {form = form} {id} {sign} {s = s} v a b = record {
       let ms = nodesIn form ns (s .node) in
       wrote-as (wrote-more a (b .is ar lt nb))
       (ap (λ (m : ℕ). headLine id sign s m ++ nodeTexts ms (walk ns (s .node)) 0 (walk ns (s .node))) (nb .count)
-      ∙ ap (λ (w : List ℕ). headLine id sign s (length w) ++ nodeTexts ms w 0 w) (sym (walk-in form ns (s .node))));
+      ∙ sym (lines-in form id sign (shownOf s ns)));
 }
