@@ -263,6 +263,10 @@ numbered-whole Numbered c d e =
     n .whole ∙ ap₂ {C = List ℕ} (λ (l m : List ℕ). l ++ (lineFeed ∷ m)) (eqList-true (n .line) (ascii "numbered") (p .0))
     (ap (λ (x : Taking). parted lineFeed (x .rest)) q)
 
+-- a listing from its second line on
+abbrev fromSecond : List (List ℕ) → Taking
+fromSecond ps = record { text = []; line = 2; rest = ps }
+
 -- an old listing in form, by the lines of each root that are read from it
 pub record InForm (form : Form) (roots : List Root) (l : List ℕ) (texts : List (List ℕ)) : Type 0 where
   pub short : length l ≤ mostText
@@ -276,7 +280,7 @@ in-form form names roots l texts e =
     let s = not-stopped 11 0 (ltb mostText (length l)) _ e in
     let n = next-accepted 1 (pieces lineFeed l) _ texts (s .1) in
     let p = passed 11 1 (isAnswers (length roots) (rowOf headKinds (n .line))) _ (n .next) in
-    let c : Taking = record { text = []; line = 2; rest = n .rest } in
+    let c = fromSecond (n .rest) in
     let h = comes (takeNumbered form c) (λ (d : Taking). takeRoots names roots d) texts (p .1) in
     let t = roots-taken names roots (h .value) texts (h .next) in
     record {
@@ -301,24 +305,20 @@ next-again k (p ∷ []) f g h e = refused-accepted e
 next-again k (p ∷ q ∷ qs) f g h e = h p (q ∷ qs) e
 
 module _ (names : ℕ) where
-  -- a listing from its second line on
-  abbrev fromSecond : List ℕ → List (List ℕ) → Taking
-  fromSecond p ps = record { text = []; line = 2; rest = p ∷ ps }
-
   -- the line `numbered` is no root's
-  numbered-refused : (roots : List Root) (q : List ℕ) (qs : List (List ℕ)) → takeRoots names roots (fromSecond (ascii "numbered") (q ∷ qs)) ≡ refused 11 2
+  numbered-refused : (roots : List Root) (q : List ℕ) (qs : List (List ℕ)) → takeRoots names roots (fromSecond (ascii "numbered" ∷ q ∷ qs)) ≡ refused 11 2
   unfolding pieces rowOf
   numbered-refused [] q qs = refl
   numbered-refused (r ∷ rs) q qs = refl
 
   no-root : (roots : List Root) (p q : List ℕ) (qs : List (List ℕ)) → eqList p (ascii "numbered") ≡ true
-      → takeRoots names roots (fromSecond p (q ∷ qs)) ≡ refused 11 2
+      → takeRoots names roots (fromSecond (p ∷ q ∷ qs)) ≡ refused 11 2
   no-root roots p q qs t =
-      ap (λ (l : List ℕ). takeRoots names roots (fromSecond l (q ∷ qs))) (eqList-true p (ascii "numbered") t) ∙ numbered-refused roots q qs
+      ap (λ (l : List ℕ). takeRoots names roots (fromSecond (l ∷ q ∷ qs))) (eqList-true p (ascii "numbered") t) ∙ numbered-refused roots q qs
 
   -- what stands after the line `answers`
   abbrev behindAnswers : Form → List Root → List (List ℕ) → Result (List (List ℕ))
-  behindAnswers form roots ps = then (takeNumbered form (record { text = []; line = 2; rest = ps })) (λ (c : Taking). takeRoots names roots c)
+  behindAnswers form roots ps = then (takeNumbered form (fromSecond ps)) (λ (c : Taking). takeRoots names roots c)
 
   other-behind : (form : Form) (roots : List Root) (ps texts : List (List ℕ)) → behindAnswers form roots ps ≡ accepted texts
       → behindAnswers (otherForm form) roots ps ≡ refused 11 2
@@ -330,7 +330,7 @@ module _ (names : ℕ) where
   other-behind Numbered roots [] texts e = refused-accepted e
   other-behind Numbered roots (p ∷ []) texts e = refused-accepted e
   other-behind Numbered roots (p ∷ q ∷ qs) texts e =
-      by-test (λ (x : Result Taking). then x (λ (c : Taking). takeRoots names roots c) ≡ accepted texts → takeRoots names roots (fromSecond p (q ∷ qs)) ≡ refused 11 2)
+      by-test (λ (x : Result Taking). then x (λ (c : Taking). takeRoots names roots c) ≡ accepted texts → takeRoots names roots (fromSecond (p ∷ q ∷ qs)) ≡ refused 11 2)
       (eqList p (ascii "numbered")) _ _ (λ t f. no-root roots p q qs t) (λ t f. refused-accepted f) e
 
   -- "recheck refuses a mixture of numbered and plain listings. Refusals: 11 for that mixture, at the header's line"
