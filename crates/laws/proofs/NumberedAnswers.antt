@@ -72,13 +72,15 @@ walk-in : (form : Form) (ns : List Node) (x : ℕ) → walk (nodesIn form ns x) 
 walk-in Plain ns x = refl
 walk-in Numbered ns x = numbered-walk ns x x
 
+-- the line of a root, then those of the nodes that are walked, taken from ns
+abbrev pub linesOf : ℕ → ℕ → Shown → List Node → List ℕ → List ℕ
+linesOf id s a ns seen =
+    headText (rootHead ∷ id ∷ s ∷ a .passes ∷ a .operations ∷ flag (a .sorted) ∷ flag (a .bailed) ∷ length seen ∷ []) ++ nodeTexts ns seen 0 seen
+
 -- So a root's lines are the same but for its variables: its own line, then the same nodes in the same order, with the same numbers for children
-pub lines-in : (form : Form) (id s : ℕ) (a : Shown) → answerText id s (answerIn form (shown a))
-    ≡ headText (rootHead ∷ id ∷ s ∷ a .passes ∷ a .operations ∷ flag (a .sorted) ∷ flag (a .bailed) ∷ length (walk (a .nodes) (a .root)) ∷ [])
-    ++ nodeTexts (nodesIn form (a .nodes) (a .root)) (walk (a .nodes) (a .root)) 0 (walk (a .nodes) (a .root))
-lines-in form id s a =
-    ap (λ (w : List ℕ). headText (rootHead ∷ id ∷ s ∷ a .passes ∷ a .operations ∷ flag (a .sorted) ∷ flag (a .bailed) ∷ length w ∷ [])
-    ++ nodeTexts (nodesIn form (a .nodes) (a .root)) w 0 w) (walk-in form (a .nodes) (a .root))
+pub lines-in : (form : Form) (id s : ℕ) (a : Shown)
+    → answerText id s (answerIn form (shown a)) ≡ linesOf id s a (nodesIn form (a .nodes) (a .root)) (walk (a .nodes) (a .root))
+lines-in form id s a = ap (linesOf id s a (nodesIn form (a .nodes) (a .root))) (walk-in form (a .nodes) (a .root))
 
 -- what request 1 asks of the nodes of root x
 pub record NumberedWell (ns : List Node) (x : ℕ) : Type 0 where
