@@ -196,10 +196,10 @@ settled-refused e = record { is = λ o w a. record { is = λ rest. subst (λ (y 
 
 -- the ways of `settle`
 pub stores-bottom : {st : State} {w w′ : List ℕ} {q : Pass} {g : Given} → Stored (9 ∷ []) 0 w q w′ g → Stands st w q → Stores (store Bottom st) w′ g
-stores-bottom h on = h .is on (record { cells = refl; few = omega arith; below = tt; short = omega arith }) refl
+stores-bottom h on = h .is on (record { cells = refl; few = omega arith; below = tt; ordered = tt; short = omega arith }) refl
 
 stores-top : {st : State} {w w′ : List ℕ} {q : Pass} {g : Given} → Stored (10 ∷ []) 0 w q w′ g → Stands st w q → Stores (store Top st) w′ g
-stores-top h on = h .is on (record { cells = refl; few = omega arith; below = tt; short = omega arith }) refl
+stores-top h on = h .is on (record { cells = refl; few = omega arith; below = tt; ordered = tt; short = omega arith }) refl
 
 settle-none : {m : Members} {k : ℕ} (b : Bool) (rest : Run ℕ) (wrap : List ℕ → Node) (xs : List ℕ) (st : State) → Taken m xs k → m .count ≡ 0
     → settle b rest wrap xs st ≡ if b (λ _. store Top) (λ _. rest) st

@@ -18,6 +18,7 @@ use Rattle.rules.specs.Plain.{any, all, filter, contains}
 use Rattle.rules.specs.Types.{Node, Union, Intersection, State, Out, ok, no, Run, bind, give, store, members, is}
 use Rattle.rules.specs.Order.{order, isGreater, insert, sortInto, sort}
 use Rattle.rules.specs.Members.{membersAt, without, sole, remainders, factored, factorUnions, factor-shared-from-intersection}
+use Rattle.laws.proofs.Sorting.{sort-sorted, insert-at}
 use Rattle.laws.proofs.Storing.{store-many}
 use Rattle.laws.proofs.Keeping.{later-length, gave, refused-not, keeps-union, keeps-intersection}
 use Rattle.lang_ty.specs.declared.arena.Pass.{Pass}
@@ -36,10 +37,11 @@ use Rattle.members.specs.declared.lists.Grown.the-variants.{On as OnG, Refused 
 use Rattle.members.specs.Lists.{Few, Lists, Taken, Makes, Tests, Gives, AnswersFlow, Answers, Runs, Asks, Refuses, Contains, Beside, KeepsIf, MembersOf, Gathered}
 use Rattle.members.specs.Lists.{ofKind, sift, Soles, AnswersGrown, Grows, Joined, AsListed, firstOf, Pairs}
 use Rattle.members.specs.Flattens.{Listing}
+use Rattle.factor.specs.declared.Span.{Span}
 use Rattle.factor.specs.declared.Wanted.{Wanted}
 use Rattle.factor.specs.declared.Wanted.the-variants.{InAllOthers, NotAmong}
-use Rattle.factor.specs.Factors.{hasMember, inOthers, picked, Picks, Remains, AnswersMore, Leaves, behind, Placed, PutIn, Inserts, Marked, SolesAny, beside}
-use Rattle.factor.specs.Factors.{FactorsParts, afterRests, FactorsRests, FactorsUnions, FactorsOne}
+use Rattle.factor.specs.Factors.{hasMember, inOthers, picked, Picks, Remains, AnswersMore, Leaves, behind, Within, Probed, Halved, Placed, PutIn, Inserts, Marked}
+use Rattle.factor.specs.Factors.{SolesAny, beside, FactorsParts, afterRests, FactorsRests, FactorsUnions, FactorsOne}
 use Rattle.laws.proofs.Filtering.{under-both, under-most, any-here, any-more, any-done}
 use Rattle.members.proofs.Gathered.{Tried, Sifting, sifting-start, sifting-more, sifting-done, Searching, searching-start, searching-here, searching-more}
 use Rattle.members.proofs.Gathered.{searching-done, few-lists, few-at, few-below, gathered-none, gathered-few, gathered-list, taken-list, alone, listed, Searched}
@@ -233,57 +235,66 @@ module _ {w : List ℕ} {y x : ℕ} {o : Order} (c : Compared w y x o) where
   pub behind-greater : o ≡ Greater → Pairs behind w y x true
   behind-greater e = behind-by e
 
--- `place_of` at cell i
-pub record Seeking (w ms : List ℕ) (n x i : ℕ) : Type 0 where
-  pub few : i ≤ n
-  pub is : {q : Pass} {ns : List Node} {ys : List ℕ} → Arena w q ns → Taken (firstOf n ms) ys (length ns) → x < length ns
-      → insert ns x ys ≡ take i ys ++ insert ns x (drop i ys)
+-- `halved`: the cell that is compared is greater, or it is not
+module _ {w ms : List ℕ} {span : Span} {x mid y : ℕ} {b : Bool} (probe : Probed span mid) (e : y ≡ cell ms mid) (t : Pairs behind w y x b) where
+  middle : {q : Pass} {ns : List Node} {n : ℕ} {ys : List ℕ} → Arena w q ns → Taken (firstOf n ms) ys (length ns) → x < length ns → span .high ≤ n
+      → behind ns (getD ys mid 0) x ≡ b
+  middle {ns = ns} h m l le =
+      ap (λ (k : ℕ). behind ns k x) (sym (few-at (m .list) e (omega (arith, probe .high)))) ∙ sym (t .is h (few-below m e (omega (arith, probe .high))) l)
+
+  pub halved-low : b ≡ true → Halved w ms span x (record { low = span .low; high = mid })
+  halved-low z =
+      record {
+        some = probe .low;
+        high = omega (arith, probe .high);
+        less = omega (arith, probe .low, probe .high);
+        is = λ h m l le c. record { ahead = c .ahead; after = λ lt. middle h m l le ∙ z };
+      }
+
+  pub halved-high : b ≡ false → Halved w ms span x (record { low = mid + 1; high = span .high })
+  halved-high z =
+      record {
+        some = omega (arith, probe .high);
+        high = omega arith;
+        less = omega (arith, probe .low, probe .high);
+        is = λ {ns = ns} {ys = ys} h m l le c.
+            record {
+              ahead = λ i f. let same : i ≡ mid = omega arith in ap (λ (k : ℕ). behind ns (getD ys k 0) x) same ∙ middle h m l le ∙ z;
+              after = c .after;
+            };
+      }
+
+-- `place_of` with the span that is left
+pub record Seeking (w ms : List ℕ) (n x : ℕ) (span : Span) : Type 0 where
+  pub some : span .low ≤ span .high
+  pub few : span .high ≤ n
+  pub is : {q : Pass} {ns : List Node} {ys : List ℕ} → Arena w q ns → Taken (firstOf n ms) ys (length ns) → x < length ns → Within ns ys x span
 
 module _ {w ms : List ℕ} {n x : ℕ} where
-  pub seeking-start : Seeking w ms n x 0
-  seeking-start = record { few = omega arith; is = λ h m l. refl }
+  pub seeking-start : Seeking w ms n x (record { low = 0; high = n })
+  seeking-start =
+      record {
+        some = omega arith;
+        few = omega arith;
+        is = λ h m l. record { ahead = λ i e. absurd (omega arith); after = λ lt. absurd (omega (arith, m .list .count)) };
+      }
 
-  module _ {i y : ℕ} {b : Bool} (c : Seeking w ms n x i) (lt : i < n) (e : y ≡ cell ms i) (t : Pairs behind w y x b) where
-    turn : {q : Pass} {ns : List Node} {ys : List ℕ} → Arena w q ns → Taken (firstOf n ms) ys (length ns) → x < length ns
-        → insert ns x (drop i ys) ≡ if b (λ _. x ∷ drop i ys) (λ _. getD ys i 0 ∷ insert ns x (drop (suc i) ys))
-    turn {ns = ns} {ys = ys} h m l =
-        let z = drop-cons ys i 0 (omega (arith, m .list .count)) in
-        ap (insert ns x) z
-        ∙ ap (λ (v : Bool). if v (λ _. x ∷ getD ys i 0 ∷ drop (suc i) ys) (λ _. getD ys i 0 ∷ insert ns x (drop (suc i) ys)))
-        (ap (λ (k : ℕ). behind ns k x) (sym (few-at (m .list) e lt)) ∙ sym (t .is h (few-below m e lt) l))
-        ∙ ap (λ (d : List ℕ). if b (λ _. x ∷ d) (λ _. getD ys i 0 ∷ insert ns x (drop (suc i) ys))) (sym z)
+  module _ {span : Span} (c : Seeking w ms n x span) where
+    pub seeking-more : {r : Span} → Halved w ms span x r → Seeking w ms n x r
+    seeking-more g =
+        record { some = g .some; few = omega arith; is = λ h m l. g .is h m l (c .few) (c .is h m l) }
 
-    pub seeking-here : b ≡ true → Placed w ms n x i
-    seeking-here z =
-        record {
-          few = c .few;
-          is = λ {q} {ns} {ys} h m l.
-              c .is h m l
-              ∙ ap (λ (d : List ℕ). take i ys ++ d)
-              (turn h m l ∙ ap (λ (v : Bool). if v (λ _. x ∷ drop i ys) (λ _. getD ys i 0 ∷ insert ns x (drop (suc i) ys))) z);
-        }
-
-    pub seeking-more : b ≡ false → Seeking w ms n x (i + 1)
-    seeking-more z =
+    pub seeking-done : span .high ≤ span .low → Placed w ms n x (span .low)
+    seeking-done le =
+        let one : span .low ≡ span .high = omega arith in
         record {
           few = omega arith;
-          is = λ {q} {ns} {ys} h m l.
-              let more = insert ns x (drop (suc i) ys) in
-              c .is h m l
-              ∙ ap (λ (d : List ℕ). take i ys ++ d) (turn h m l ∙ ap (λ (v : Bool). if v (λ _. x ∷ drop i ys) (λ _. getD ys i 0 ∷ more)) z)
-              ∙ sym (append-assoc (take i ys) (getD ys i 0 ∷ []) more)
-              ∙ ap (λ (d : List ℕ). d ++ more) (sym (take-suc ys i 0 (omega (arith, m .list .count))))
-              ∙ ap (λ (j : ℕ). take j ys ++ insert ns x (drop j ys)) (sym (add-one i));
+          is = λ {q} {ns} {ys} h m s l.
+              let size = m .list .count in
+              let g = c .is h m l in
+              insert-at ns x ys (span .low) (rw (s .is) (sort-sorted ns (s .of))) (omega arith) (g .ahead)
+              (λ lt. ap (λ (k : ℕ). behind ns (getD ys k 0) x) one ∙ g .after (omega arith));
         }
-
-  pub seeking-done : {i : ℕ} → Seeking w ms n x i → n ≤ i → Placed w ms n x i
-  seeking-done {i} c le =
-      record {
-        few = c .few;
-        is = λ {q} {ns} {ys} h m l.
-            let z = drop-of-length-le ys {i = i} (omega (arith, m .list .count)) in
-            c .is h m l ∙ ap (λ (d : List ℕ). take i ys ++ d) (ap (insert ns x) z ∙ ap (λ (d : List ℕ). x ∷ d) (sym z));
-      }
 
 -- `put_in` at cell j, where v is to go
 run-take : (f : ℕ → ℕ) (a n i : ℕ) → i ≤ n → take i (run f a n) ≡ run f a i
@@ -356,8 +367,8 @@ module _ {s₀ : List ℕ} {i n x : ℕ} where
 pub inserts-is : {w ms ms′ : List ℕ} {n x i : ℕ} → Placed w ms n x i → PutIn ms i n x ms′ → Inserts w ms n x ms′
 inserts-is p c =
     record {
-      is = λ h g u lt le.
-          gathered-list (sym (p .is h (record { list = gathered-few g (omega arith); below = u }) le)) (c .is g lt (p .few));
+      is = λ h g u s lt le.
+          gathered-list (sym (p .is h (record { list = gathered-few g (omega arith); below = u }) s le)) (c .is g lt (p .few));
     }
 
 -- `sort` at member i
@@ -384,6 +395,7 @@ module _ {w ms : List ℕ} {n : ℕ} where
   inserting-start = record { few = omega arith; is = λ h m. gathered-none (length-replicate {A = ℕ} mostMembers 0); below = λ h m. tt }
 
   pub inserting-more : {out out′ : List ℕ} {i x : ℕ} → Inserting w ms n out i → i < n → x ≡ cell ms i → Inserts w out i x out′ → Inserting w ms n out′ (i + 1)
+  unfolding sort
   inserting-more {out} {out′} {i} {x} c lt e g =
       record {
         few = omega arith;
@@ -394,7 +406,7 @@ module _ {w ms : List ℕ} {n : ℕ} where
             let z = got .count in
             gathered-list (next ns m)
             (subst (λ (k : ℕ). Gathered out′ k (insert ns x (sortInto ns [] (take i xs)))) (sym (add-one i))
-            (g .is h got (c .below h m) (omega arith) (few-below m e lt)));
+            (g .is h got (c .below h m) (record { of = take i xs; is = refl }) (omega arith) (few-below m e lt)));
         below = λ {q} {ns} {xs} h m.
             subst (Under (length ns)) (next ns m) (insert-under ns (length ns) x (sortInto ns [] (take i xs)) (few-below m e lt) (c .below h m));
       } where

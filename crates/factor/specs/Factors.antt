@@ -1,9 +1,9 @@
 -- What the functions of factor.rt ensure. Each contract's premises are arguments of its field.
 use mathlib.Core.Path.{_≡_}
-use mathlib.Core.Bool.{Bool, not, _||_}
-use Prim.Native.Nat.{ℕ, suc, _+_, _≤_, _<_}
+use mathlib.Core.Bool.{Bool, true, false, not, _||_}
+use Prim.Native.Nat.{ℕ, suc, _+_, _-_, _≤_, _<_}
 use mathlib.Core.List.{List, [], _∷_, _++_}
-use lib.ListN.{length, take, drop}
+use lib.ListN.{length, getD, take, drop}
 use lib.Dec.{ltb}
 use Rattle.rules.specs.Ceilings.{mostMembers}
 use Rattle.rules.specs.Plain.{all, filter, contains}
@@ -21,6 +21,7 @@ use Rattle.members.specs.declared.lists.Grown.{Grown}
 use Rattle.members.specs.Lists.{Taken, Gives, Answers, Gathered, Wraps, AnswersPart, AnswersGrown, firstOf}
 use Rattle.members.specs.Flattens.{Listing}
 use Rattle.cells.specs.Placed.{Under}
+use Rattle.factor.specs.declared.Span.{Span}
 use Rattle.factor.specs.declared.Wanted.{Wanted}
 use Rattle.factor.specs.declared.Wanted.the-variants.{InAllOthers, NotAmong}
 
@@ -60,10 +61,33 @@ pub record Leaves (w : List ℕ) (q : Pass) (shared unions : Members) (w′ : Li
 abbrev pub behind : List Node → ℕ → ℕ → Bool
 behind ns y x = isGreater (order (length ns) ns y x)
 
--- x goes before place r of the members
+-- x goes into the span of the members: the one ahead of it is not greater, and the one behind it is
+pub record Within (ns : List Node) (ys : List ℕ) (x : ℕ) (span : Span) : Type 0 where
+  pub ahead : (i : ℕ) → suc i ≡ span .low → behind ns (getD ys i 0) x ≡ false
+  pub after : span .high < length ys → behind ns (getD ys (span .high) 0) x ≡ true
+
+-- r is a cell of the span
+pub record Probed (span : Span) (r : ℕ) : Type 0 where
+  pub low : span .low ≤ r
+  pub high : r < span .high
+
+-- r is a smaller span into which x goes too
+pub record Halved (w ms : List ℕ) (span : Span) (x : ℕ) (r : Span) : Type 0 where
+  pub some : r .low ≤ r .high
+  pub high : r .high ≤ span .high
+  pub less : r .high - r .low < span .high - span .low
+  pub is : {q : Pass} {ns : List Node} {n : ℕ} {ys : List ℕ} → Arena w q ns → Taken (firstOf n ms) ys (length ns) → x < length ns → span .high ≤ n
+      → Within ns ys x span → Within ns ys x r
+
+-- ys are the members of some list in order
+pub record Sorted (ns : List Node) (ys : List ℕ) : Type 0 where
+  pub of : List ℕ
+  pub is : ys ≡ sort ns of
+
+-- x goes before place r of the members, which are in order
 pub record Placed (w ms : List ℕ) (n x r : ℕ) : Type 0 where
   pub few : r ≤ n
-  pub is : {q : Pass} {ns : List Node} {ys : List ℕ} → Arena w q ns → Taken (firstOf n ms) ys (length ns) → x < length ns
+  pub is : {q : Pass} {ns : List Node} {ys : List ℕ} → Arena w q ns → Taken (firstOf n ms) ys (length ns) → Sorted ns ys → x < length ns
       → insert ns x ys ≡ take r ys ++ (x ∷ drop r ys)
 
 -- x before place i of what was gathered
@@ -71,7 +95,7 @@ pub record PutIn (ms : List ℕ) (i n x : ℕ) (ms′ : List ℕ) : Type 0 where
   pub is : {ys : List ℕ} → Gathered ms n ys → length ys < mostMembers → i ≤ n → Gathered ms′ (suc n) (take i ys ++ (x ∷ drop i ys))
 
 pub record Inserts (w ms : List ℕ) (n x : ℕ) (ms′ : List ℕ) : Type 0 where
-  pub is : {q : Pass} {ns : List Node} {ys : List ℕ} → Arena w q ns → Gathered ms n ys → Under (length ns) ys → length ys < mostMembers → x < length ns
+  pub is : {q : Pass} {ns : List Node} {ys : List ℕ} → Arena w q ns → Gathered ms n ys → Under (length ns) ys → Sorted ns ys → length ys < mostMembers → x < length ns
       → Gathered ms′ (suc n) (insert ns x ys)
 
 -- q with the sorted mark where n is two or more

@@ -20,11 +20,12 @@ use members::lists::members_of;
 use members::lists::of_kind;
 use members::lists::refused;
 use members::lists::sole;
+ghost use Prim.Native.Nat.{_<_};
 ghost use Rattle.rules.specs.Members.{factor-shared-from-intersection};
 ghost use Rattle.rules.specs.Order.{sort};
 ghost use Rattle.members.specs.Lists.{Makes, Tests, Runs, Asks, Pairs, Beside, firstOf};
-ghost use Rattle.factor.specs.Factors.{hasMember, inOthers, picked, Picks, Remains, Leaves, behind, Placed, PutIn, Inserts, Marked, SolesAny, FactorsParts};
-ghost use Rattle.factor.specs.Factors.{FactorsRests, FactorsUnions, FactorsOne};
+ghost use Rattle.factor.specs.Factors.{hasMember, inOthers, picked, Picks, Remains, Leaves, behind, Probed, Halved, Placed, PutIn, Inserts, Marked, SolesAny};
+ghost use Rattle.factor.specs.Factors.{FactorsParts, FactorsRests, FactorsUnions, FactorsOne};
 
 // Whether every union of the list but the first has the member x.
 fn in_all_others(arena: &[u32], s: &[u32], n: u32, x: u32) -> bool
@@ -146,18 +147,48 @@ fn is_behind(arena: &[u32], y: u32, x: u32) -> bool
     }
 }
 
-// Where x goes among the first n cells of s: before the first that is greater.
+// The cells from low on, up to high.
+struct Span {
+    low: u32,
+    high: u32,
+}
+
+// The cell of the span that x is compared with: of all n the last, since members are often in order, and then the middle.
+fn probed(span: Span, n: u32) -> u32
+    requires { ⌜ span .low < span .high ⌝ }
+    ensures { λ r. ⌜ Probed span r ⌝ }
+{
+    let low = span.low;
+    let high = span.high;
+    if high == n {
+        return high - 1;
+    }
+    low + (high - low) / 2
+}
+
+// The part of the span where x goes: before the cell that it is compared with if that is greater, else behind it.
+fn halved(arena: &[u32], s: &[u32], n: u32, span: Span, x: u32) -> Span
+    requires { ⌜ span .low < span .high ⌝ }
+    ensures { λ r. ⌜ Halved (now (arena .entry)) (now (s .entry)) span x r ⌝ }
+{
+    let low = span.low;
+    let high = span.high;
+    let mid = probed(span, n);
+    if is_behind(arena, at(s, mid), x) {
+        return Span { low, high: mid };
+    }
+    Span { low: mid + 1, high }
+}
+
+// Where x goes among the first n cells of s, which are in order: before the first that is greater.
 fn place_of(arena: &[u32], s: &[u32], n: u32, x: u32) -> u32
     ensures { λ r. ⌜ Placed (now (arena .entry)) (now (s .entry)) n x r ⌝ }
 {
-    let mut i = 0;
-    while i < n {
-        if is_behind(arena, at(s, i), x) {
-            return i;
-        }
-        i += 1;
+    let mut span = Span { low: 0, high: n };
+    while span.low < span.high {
+        span = halved(arena, s, n, span, x);
     }
-    i
+    span.low
 }
 
 // x put before cell i of the first n cells of s, those from i on moved up by one.

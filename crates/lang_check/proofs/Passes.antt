@@ -1,22 +1,21 @@
 -- A pass from nothing, the set that the second pass preserves, and a root's answer. Assumes nothing.
 use mathlib.Core.Path.{_≡_, refl, sym, ap, ap₂, _∙_, subst}
 use mathlib.Core.Bool.{Bool, true, false, not, _||_}
-use mathlib.Core.Logic.{⊎-elim}
+use mathlib.Core.Logic.{inl, inr, ⊎-elim}
 use Prim.Native.Nat.{ℕ, zero, suc, _+_, _-_, _*_, _≤_, _<_}
 use native.Mathlib.Omega.{arith}
 use native.Mathlib.Nat.{eq-or-lt-of-le}
-use native.Mathlib.Numerals.{add-one}
 use mathlib.Core.List.{List, [], _∷_, _++_}
-use lib.ListN.{length, set}
+use lib.ListN.{length, List·getD-eq-default}
 use lib.Seq.{getD-set-same, getD-set-other}
 use lib.Dec.{eqb, ltb}
-use borrow.Author.Tests.{ltb-true, ltb-false, eq-eqb, ne-eqb}
-use Rattle.cells.specs.Part.{if, cell, part}
+use borrow.Author.Tests.{ltb-true, ltb-false, eq-eqb, ne-eqb, not-true, not-false}
+use Rattle.cells.specs.Part.{if, run, cell, part}
 use Rattle.cells.specs.Sum.{Sum}
 use Rattle.cells.specs.Clears.{Clears}
 use Rattle.cells.proofs.Parts.{run-snoc, cell-zero}
 use Rattle.cells.proofs.Holding.{holds-from}
-use Rattle.cells.proofs.Choices.{true-false, if-self}
+use Rattle.cells.proofs.Choices.{true-false, if-same}
 use Rattle.layout.specs.Layout.{bitsAt, heldAt, preservedAt, seenAt, marksAt}
 use Rattle.rules.specs.Plain.{any}
 use Rattle.rules.specs.Ceilings.{mostOperations, mostEntries}
@@ -37,10 +36,12 @@ use Rattle.lang_ty.proofs.Stores.{stands-none}
 use Rattle.storage.proofs.Alike.{reads-alike}
 use Rattle.storage.specs.declared.given.Canon.{Canon}
 use Rattle.storage.specs.Passes.{repOf, Reps, Knows}
+use Rattle.storage.specs.declared.notes.PolarityBits.{PolarityBits}
+use Rattle.storage.specs.Notes.{IsBoth}
 use Rattle.lang_check.specs.declared.collect.RootAnswer.{RootAnswer}
 use Rattle.lang_check.specs.declared.collect.RootAnswer.the-variants.{Shown as ShownR, Refused as RefusedR}
 use Rattle.lang_check.specs.Cycle.{Keyed, Poised, Answers, Visits}
-use Rattle.lang_check.specs.Roots.{NoneCounted, LentTo, OnePass, PreservesIf, Or, Detects, RootIs, firstOf, FirstShown, SecondShown, NonePreserved, Canonicalizes}
+use Rattle.lang_check.specs.Roots.{NoneCounted, LentTo, OnePass, BitsEnd, AnyBoth, PreservesIf, Detects, Or, RootIs, firstOf, FirstShown, SecondShown, NonePreserved, Canonicalizes}
 use Rattle.lang_check.proofs.Poised.{answers-out}
 use Rattle.lang_check.proofs.Expand.{stores-of}
 use Rattle.lang_check.proofs.Answered.{answers-base}
@@ -93,78 +94,143 @@ module _ {table : List ℕ} {c : Canon} {p : runs.Pass} {t : Reader} (k : Knows 
   pass-stores : {n : ℕ} {w work work′ : List ℕ} {h : ℕ} (g : Given) → Answers (pass p t id pol) n w work work′ h g → Stores (pass p t id pol) w g
   pass-stores g a = stores-of g (λ x st e. pass-moves x st e .1) a
 
--- the set that a pass preserves, found so far
-pub record Detecting (table₀ work : List ℕ) (count : ℕ) (table : List ℕ) (found : Bool) (i : ℕ) : Type 0 where
-  pub few : i ≤ count
+module _ {work : List ℕ} {count : ℕ} where
+  pub bits-end-few : {e : ℕ} → e ≡ bitsAt + count → e < length work → BitsEnd work count e
+  bits-end-few e lt = record { within = omega arith; few = omega arith; is = inl e }
+
+  pub bits-end-all : {e : ℕ} → e ≡ bitsAt + count → length work ≤ e → BitsEnd work count (length work)
+  bits-end-all e le = record { within = omega arith; few = omega arith; is = inr refl }
+
+  pub bits-in : {e i : ℕ} → BitsEnd work count e → i < e → i < length work
+  bits-in h lt = omega (arith, h .within)
+
+-- one more number at the end
+any-last : (xs : List ℕ) (y : ℕ) → any isBoth (xs ++ (y ∷ [])) ≡ any isBoth xs || isBoth y
+any-last [] y = turn (isBoth y) where
+  turn : (b : Bool) → if b (λ _. true) (λ _. false) ≡ b
+  turn true = refl
+  turn false = refl
+any-last (x ∷ xs) y = turn (isBoth x) (any isBoth xs) (isBoth y) (any-last xs y) where
+  turn : (b d e : Bool) {c : Bool} → c ≡ d || e → if b (λ _. true) (λ _. c) ≡ if b (λ _. true) (λ _. d) || e
+  turn true d e h = refl
+  turn false d e h = h
+
+any-more-run : (f : ℕ → ℕ) (a n : ℕ) → any isBoth (run f a (suc n)) ≡ any isBoth (run f a n) || isBoth (f (a + n))
+any-more-run f a n = ap (any isBoth) (run-snoc f a n) ∙ any-last (run f a n) (f (a + n))
+
+-- zeros behind them say nothing
+any-zeros : (f : ℕ → ℕ) (a n m : ℕ) → ((k : ℕ) → a + n ≤ k → k < a + n + m → f k ≡ 0) → any isBoth (run f a (n + m)) ≡ any isBoth (run f a n)
+any-zeros f a n zero h = let z : n + 0 ≡ n = omega arith in ap (λ (c : ℕ). any isBoth (run f a c)) z
+any-zeros f a n (suc m) h =
+    let z : n + suc m ≡ suc (n + m) = omega arith in
+    ap (λ (c : ℕ). any isBoth (run f a c)) z ∙ any-more-run f a (n + m)
+    ∙ ap (λ (v : ℕ). any isBoth (run f a (n + m)) || isBoth v) (h (a + (n + m)) (omega arith) (omega arith))
+    ∙ or-none (any isBoth (run f a (n + m)))
+    ∙ any-zeros f a n m (λ k l u. h k l (omega arith)) where
+      or-none : (b : Bool) → (b || false) ≡ b
+      or-none true = refl
+      or-none false = refl
+
+-- `any_both` at cell i
+pub record Seeking (work : List ℕ) (count : ℕ) (found : Bool) (i : ℕ) : Type 0 where
+  pub low : bitsAt ≤ i
+  pub few : i ≤ bitsAt + count
+  pub is : found ≡ any isBoth (part work bitsAt (i - bitsAt))
+
+module _ {work : List ℕ} {count : ℕ} where
+  pub seeking-start : Seeking work count false bitsAt
+  seeking-start = record { low = omega arith; few = omega arith; is = refl }
+
+  pub seeking-more : {e i : ℕ} {found b r : Bool} {bits : PolarityBits} → BitsEnd work count e → Seeking work count found i → i < e → bits .bits ≡ cell work i → IsBoth bits b
+      → Or found b r → Seeking work count r (i + 1)
+  seeking-more {i = i} end s lt e at or =
+      let l = s .low in
+      let z : i + 1 - bitsAt ≡ suc (i - bitsAt) = omega arith in
+      let y : i ≡ bitsAt + (i - bitsAt) = omega arith in
+      record {
+        low = omega arith;
+        few = omega (arith, end .few);
+        is = or .is ∙ ap₂ _||_ (s .is) (at .is ∙ ap isBoth (e ∙ ap (cell work) y))
+            ∙ sym (ap (λ (n : ℕ). any isBoth (part work bitsAt n)) z ∙ any-more-run (cell work) bitsAt (i - bitsAt));
+      }
+
+  pub seeking-done : {e i : ℕ} {found : Bool} → BitsEnd work count e → Seeking work count found i → e ≤ i → AnyBoth work count found
+  seeking-done {e} {i} end s le =
+      let l = s .low in
+      let u = s .few in
+      let z : i - bitsAt + (bitsAt + count - i) ≡ count = omega arith in
+      record {
+        is = s .is ∙ sym (any-zeros (cell work) bitsAt (i - bitsAt) (bitsAt + count - i)
+            (λ k low high. List·getD-eq-default work 0 (⊎-elim (λ (f : e ≡ bitsAt + count). absurd (omega arith)) (λ (f : e ≡ length work). omega arith) (end .is))))
+            ∙ ap (λ (n : ℕ). any isBoth (part work bitsAt n)) z;
+      }
+
+-- one of a run passes the test
+any-at : (f : ℕ → ℕ) (a n v : ℕ) → v < n → isBoth (f (a + v)) ≡ true → any isBoth (run f a n) ≡ true
+any-at f a zero v lt e = absurd (omega arith)
+any-at f a (suc n) zero lt e =
+    ap (λ (b : Bool). if b (λ _. true) (λ _. any isBoth (run f (suc a) n))) (ap (λ (k : ℕ). isBoth (f k)) (omega arith) ∙ e)
+any-at f a (suc n) (suc v) lt e =
+    ap (λ (b : Bool). if (isBoth (f a)) (λ _. true) (λ _. b)) (any-at f (suc a) n v (omega arith) (ap (λ (k : ℕ). isBoth (f k)) (omega arith) ∙ e))
+    ∙ if-same (isBoth (f a)) true
+
+-- the set that a pass preserves, of the ids before i
+pub record Detecting (table₀ work : List ℕ) (count : ℕ) (table : List ℕ) (i : ℕ) : Type 0 where
   pub same : length table ≡ length table₀
-  pub is : Detects table₀ work i table found
+  pub seen : (v : ℕ) → v < i → preservedAt + v < length table₀ → isBoth (cell work (bitsAt + v)) ≡ true → cell table (preservedAt + v) ≡ 1
+  pub unseen : (v : ℕ) → isBoth (cell work (bitsAt + v)) ≡ false → cell table (preservedAt + v) ≡ cell table₀ (preservedAt + v)
+  pub before : (k : ℕ) → k < preservedAt → cell table k ≡ cell table₀ k
+  pub behind : (k : ℕ) → preservedAt + count ≤ k → cell table k ≡ cell table₀ k
 
-pub detecting-start : {table work : List ℕ} {count : ℕ} → Detecting table work count table false 0
-detecting-start {table} =
-    record {
-      few = omega arith;
-      same = refl;
-      is = record { is = refl; seen = λ v l. absurd (omega arith); unseen = λ v e. refl; before = λ k l. refl; behind = λ k l. refl; none = λ e. refl };
-    }
+module _ {table₀ work : List ℕ} {count : ℕ} where
+  pub detecting-start : Detecting table₀ work count table₀ 0
+  detecting-start = record { same = refl; seen = λ v l. absurd (omega arith); unseen = λ v e. refl; before = λ k l. refl; behind = λ k l. refl }
 
-any-turn : (b : Bool) (x y z : Bool) → y ≡ z || x → if b (λ _. true) (λ _. y) ≡ if b (λ _. true) (λ _. z) || x
-any-turn true x y z e = refl
-any-turn false x y z e = e
+  module _ {table table′ : List ℕ} {i : ℕ} (d : Detecting table₀ work count table i) (pr : PreservesIf table work i table′) where
+    -- a cell keeps what stands there, unless it is that of an id seen in both polarities
+    still : (b : Bool) → isBoth (cell work (bitsAt + i)) ≡ b → (k : ℕ) → (k ≡ preservedAt + i → isBoth (cell work (bitsAt + i)) ≡ false) → cell table′ k ≡ cell table k
+    still true e k h = ap (λ (l : List ℕ). cell l k) (pr .some e) ∙ getD-set-other table (preservedAt + i) k 1 0 (λ y. true-false (sym e ∙ h y))
+    still false e k h = ap (λ (l : List ℕ). cell l k) (pr .none e)
 
-any-snoc : (xs : List ℕ) (x : ℕ) → any isBoth (xs ++ (x ∷ [])) ≡ any isBoth xs || isBoth x
-any-snoc [] x = if-self (isBoth x)
-any-snoc (y ∷ xs) x = any-turn (isBoth y) (isBoth x) (any isBoth (xs ++ (x ∷ []))) (any isBoth xs) (any-snoc xs x)
+    pub detecting-more : i < count → length table′ ≡ length table → Detecting table₀ work count table′ (i + 1)
+    detecting-more lt size =
+        let other = still (isBoth (cell work (bitsAt + i))) refl in
+        let was : (v : ℕ) → v ≡ i → isBoth (cell work (bitsAt + i)) ≡ isBoth (cell work (bitsAt + v)) = λ v q. ap (λ (m : ℕ). isBoth (cell work (bitsAt + m))) (sym q) in
+        record {
+          same = size ∙ d .same;
+          seen = λ v l r z.
+              ⊎-elim (λ (q : v ≡ i). ap (λ (j : ℕ). cell table′ (preservedAt + j)) q ∙ ap (λ (l : List ℕ). cell l (preservedAt + i)) (pr .some (was v q ∙ z))
+              ∙ getD-set-same table (preservedAt + i) 1 0 (omega (arith, d .same)))
+              (λ (q : v < i). other (preservedAt + v) (λ y. absurd (omega arith)) ∙ d .seen v q r z) (eq-or-lt-of-le (omega arith));
+          unseen = λ v z. other (preservedAt + v) (λ y. was v (omega arith) ∙ z) ∙ d .unseen v z;
+          before = λ k l. other k (λ y. absurd (omega arith)) ∙ d .before k l;
+          behind = λ k l. other k (λ y. absurd (omega arith)) ∙ d .behind k l;
+        }
 
-or-none : (a b : Bool) → a || b ≡ false → (a ≡ false) × (b ≡ false)
-or-none true b e = true-false e
-or-none false b e = (refl, e)
+  -- each way out of `detected_cooccurring`
+  module _ {b : Bool} (a : AnyBoth work count b) where
+    pub detects-none : not b ≡ true → Detects table₀ work count table₀ false
+    detects-none n =
+        let z = not-true b n in
+        record {
+          is = sym z ∙ a .is;
+          seen = λ v l r e. true-false (sym (any-at (cell work) bitsAt count v l e) ∙ sym (a .is) ∙ z);
+          unseen = λ v e. refl;
+          before = λ k l. refl;
+          behind = λ k l. refl;
+          none = λ e. refl;
+        }
 
-module _ {table₀ work : List ℕ} {table table′ : List ℕ} {found found′ : Bool} {i : ℕ} where
-  -- what is preserved of id i, or not
-  preserved-by : (b : Bool) → Detects table₀ work i table found → length table ≡ length table₀ → b ≡ isBoth (cell work (bitsAt + i)) → (b ≡ true → table′ ≡ set table (preservedAt + i) 1)
-      → (b ≡ false → table′ ≡ table) → found′ ≡ found || b → Detects table₀ work (suc i) table′ found′
-  preserved-by true d size e took left f =
-      let at : table′ ≡ set table (preservedAt + i) 1 = took refl in
-      let read : (k : ℕ) → cell table′ k ≡ cell (set table (preservedAt + i) 1) k = λ k. ap (λ (l : List ℕ). cell l k) at in
-      let other : (k : ℕ) → (k ≡ preservedAt + i → ⊥) → cell table′ k ≡ cell table k = λ k ne. read k ∙ getD-set-other table (preservedAt + i) k 1 0 ne in
-      record {
-        is = f ∙ ap (λ (y : Bool). y || true) (d .is) ∙ ap (λ (y : Bool). any isBoth (part work bitsAt i) || y) e
-            ∙ sym (any-snoc (part work bitsAt i) (cell work (bitsAt + i))) ∙ ap (any isBoth) (sym (run-snoc (cell work) bitsAt i));
-        seen = λ v l r z.
-            ⊎-elim (λ (q : v ≡ i). read (preservedAt + v) ∙ ap (λ (j : ℕ). cell (set table (preservedAt + i) 1) (preservedAt + j)) q ∙ getD-set-same table (preservedAt + i) 1 0 (omega arith))
-            (λ (q : v < i). other (preservedAt + v) (λ y. omega arith) ∙ d .seen v q r z) (eq-or-lt-of-le (omega arith));
-        unseen = λ v z. other (preservedAt + v) (λ y. let j : v ≡ i = omega arith in true-false (e ∙ ap (λ (m : ℕ). isBoth (cell work (bitsAt + m))) (sym j) ∙ z)) ∙ d .unseen v z;
-        before = λ k l. other k (λ y. omega arith) ∙ d .before k l;
-        behind = λ k l. other k (λ y. omega arith) ∙ d .behind k (omega arith);
-        none = λ z. true-false (or-none found true (sym f ∙ z) .1);
-      }
-  preserved-by false d size e took left f =
-      let same : table′ ≡ table = left refl in
-      let read : (k : ℕ) → cell table′ k ≡ cell table k = λ k. ap (λ (l : List ℕ). cell l k) same in
-      record {
-        is = f ∙ ap (λ (y : Bool). y || false) (d .is) ∙ ap (λ (y : Bool). any isBoth (part work bitsAt i) || y) e
-            ∙ sym (any-snoc (part work bitsAt i) (cell work (bitsAt + i))) ∙ ap (any isBoth) (sym (run-snoc (cell work) bitsAt i));
-        seen = λ v l r z.
-            ⊎-elim (λ (q : v ≡ i). true-false (sym z ∙ ap (λ (m : ℕ). isBoth (cell work (bitsAt + m))) q ∙ sym e))
-            (λ (q : v < i). read (preservedAt + v) ∙ d .seen v q r z) (eq-or-lt-of-le (omega arith));
-        unseen = λ v z. read (preservedAt + v) ∙ d .unseen v z;
-        before = λ k l. read k ∙ d .before k l;
-        behind = λ k l. read k ∙ d .behind k (omega arith);
-        none = λ z. same ∙ d .none (or-none found false (sym f ∙ z) .0);
-      }
-
-  pub detecting-more : {count : ℕ} {b : Bool} → Detecting table₀ work count table found i → i < count → PreservesIf table work i table′ b → Or found b found′ → length table′ ≡ length table
-      → Detecting table₀ work count table′ found′ (i + 1)
-  detecting-more {b = b} d lt pr o size =
-      record {
-        few = omega arith;
-        same = size ∙ d .same;
-        is = subst (λ (j : ℕ). Detects table₀ work j table′ found′) (sym (add-one i)) (preserved-by b (d .is) (d .same) (pr .is) (pr .some) (pr .none) (o .is));
-      }
-
-pub detecting-done : {table₀ work : List ℕ} {count : ℕ} {table : List ℕ} {found : Bool} {i : ℕ} → Detecting table₀ work count table found i → count ≤ i → Detects table₀ work count table found
-detecting-done {table₀} {work} {count} {table} {found} {i} d le =
-    let e : i ≡ count = omega (arith, d .few) in subst (λ (j : ℕ). Detects table₀ work j table found) e (d .is)
+    pub detects-some : {table : List ℕ} {i : ℕ} → not b ≡ false → Detecting table₀ work count table i → count ≤ i → Detects table₀ work count table true
+    detects-some n d le =
+        record {
+          is = sym (not-false b n) ∙ a .is;
+          seen = λ v l r e. d .seen v (omega arith) r e;
+          unseen = d .unseen;
+          before = d .before;
+          behind = d .behind;
+          none = λ e. true-false e;
+        }
 
 -- the numbers shown
 abbrev shownIn : ℕ → ℕ → Bool → Bool → ℕ → Shown

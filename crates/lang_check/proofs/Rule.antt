@@ -8,14 +8,12 @@ use denote.Enum.Declared.{tagOf}
 use types.Run.{OneOf, miss}
 use Rattle.cells.specs.Part.{cell}
 use Rattle.layout.specs.Layout.{heldAt}
-use Rattle.rules.specs.Plain.{ascending}
-use Rattle.rules.specs.Ceilings.{mostNames}
-use Rattle.rules.specs.Table.{Field, Attr, Entry, var, prim, tyvar, list, fn, set, neg, named, inter, union, frozen, fieldTypes, fieldKeys, dynIds, kids, asSet}
+use Rattle.rules.specs.Table.{Field, Entry, var, prim, tyvar, list, fn, set, neg, named, inter, union, frozen, fieldTypes, dynIds, kids, asSet}
 use Rattle.rules.specs.Types.{State, Out, ok, no, Run, bind, _>>=_, give, flip, store, unionKind, Primitive, ListOf, Lambda, AttrSet, Union, Named}
 use Rattle.rules.specs.Members.{each}
 use Rattle.rules.specs.Canonicalizer.{Reader, Visit, flattened, concreteOf, unionNormalized, topIfEmptied, firstMember, fieldsRule, dynRule, unionRule, canonicalize-inner, interRule, rule, visit}
 use Rattle.rules.specs.Canonicalizer as runs
-use Rattle.laws.specs.Sound.{Orderly, OrderlySet}
+use Rattle.laws.specs.Sound.{OrderlySet}
 use Rattle.rules.specs.declared.Polarity.{Polarity}
 use Rattle.laws.proofs.Keeping.{Keeps, parted, keeps-refuse, keeps-bind, keeps-store, keeps-variable, keeps-negate, keeps-flattened, keeps-concrete, keeps-unionNormalized, keeps-settle, keeps-firstOf}
 use Rattle.lang_ty.specs.declared.arena.Pass.{Pass}
@@ -29,6 +27,7 @@ use Rattle.storage.specs.Sets.{retypeFields, retypeDyn, retyped}
 use Rattle.storage.specs.Entries.{ReadAs, EntryRead}
 use Rattle.storage.specs.Helds.{heldKids, firstPolarity, HoldsChildren, FirstPolarity}
 use Rattle.storage.proofs.HeldIds.{read-as}
+use Rattle.storage.proofs.SetNodes.{orderly-retyped}
 use Rattle.storage.proofs.entries.Entry.{the-type}
 use Rattle.members.specs.declared.lists.Flow.{Flow}
 use Rattle.composites.specs.Places.{unionEnd}
@@ -135,16 +134,6 @@ module _ (p : runs.Pass) (t : Reader) (v : Visit) (id : ℕ) where
   rule-made frozen pol st k = refl
 
 -- what is made of answers is only stored
-keys-retyped : (fs : List Field) (xs : List ℕ) → fieldKeys (retypeFields fs xs) ≡ fieldKeys fs
-keys-retyped [] xs = refl
-keys-retyped (f ∷ fs) [] = ap (λ (ks : List ℕ). f .key ∷ ks) (keys-retyped fs [])
-keys-retyped (f ∷ fs) (x ∷ xs) = ap (λ (ks : List ℕ). f .key ∷ ks) (keys-retyped fs xs)
-
-orderly-retyped : (a : Attr) (xs : List ℕ) → Orderly a → Orderly (retyped a xs)
-orderly-retyped a xs o =
-    let e = keys-retyped (a .fields) xs in
-    record { ascend = ap ascending e ∙ o .ascend; named = subst (Under mostNames) (sym e) (o .named); optional = o .optional }
-
 keeps-made : (p : runs.Pass) (pol : Polarity) (en : Entry) (xs : List ℕ) → OrderlySet (asSet en) → Keeps (made p pol en xs)
 keeps-made p pol (var l u) xs o = keeps-refuse 5
 keeps-made p pol (prim c) xs o = keeps-store (Primitive c) tt

@@ -9,6 +9,7 @@ use lib.Dec.{eqb}
 use borrow.Author.Tests.{eq-eqb, ne-eqb}
 use Rattle.cells.specs.Part.{cell}
 use Rattle.cells.specs.Sum.{Sum}
+use Rattle.cells.proofs.Choices.{true-false}
 use Rattle.layout.specs.Layout.{bitsAt, preservedAt}
 use Rattle.rules.specs.Plain.{both}
 use Rattle.rules.specs.Canonicalizer.{isVariable, isBoth}
@@ -22,7 +23,7 @@ use Rattle.storage.specs.declared.notes.Begun.{Begun}
 use Rattle.storage.specs.Notes.{begunOf, Began, IsBoth}
 use Rattle.storage.specs.Entries.{IsVar}
 use Rattle.lang_check.specs.Cycle.{Caches, Side, Either, IsCut}
-use Rattle.lang_check.specs.Roots.{PreservesIf}
+use Rattle.lang_check.specs.Roots.{BothAt, PreservesIf}
 
 pub caches-node : {work : List ℕ} {sl : ℕ} {g : Given} {x y : ℕ} {q : Pass} {work′ : List ℕ} → g ≡ Node x q → Sum x 2 y → work′ ≡ set work sl y → Caches work sl g work′ (Node x q)
 caches-node {work} {sl} {g} {x} {y} {q} {work′} e sum s =
@@ -67,19 +68,12 @@ module _ {n : ℕ} {q : Pass} {begun : Begun} {pol : Polarity} where
   pub cut-begun : {b : Bool} → (n ≡ 0 → ⊥) → q .bailed ≡ true → Began begun pol b → IsCut n q begun pol b
   cut-begun ne f was = record { is = was .is ∙ cut-by n q begun pol false true (ne-eqb n 0 ne) f }
 
-both-is : (work : List ℕ) (id : ℕ) {k v : ℕ} {r : Bool} → k ≡ bitsAt + id → v ≡ cell work k → IsBoth (record { bits = v }) r → r ≡ isBoth (cell work (bitsAt + id))
-both-is work id at e is = is .is ∙ ap isBoth (e ∙ ap (cell work) at)
+pub both-at : {work : List ℕ} {id k v : ℕ} {r : Bool} → k ≡ bitsAt + id → v ≡ cell work k → IsBoth (record { bits = v }) r → BothAt work id r
+both-at {work} at e is = record { is = is .is ∙ ap isBoth (e ∙ ap (cell work) at) }
 
-module _ {table work : List ℕ} {id k v : ℕ} {r : Bool} where
-  pub preserves-both : {p : ℕ} {table′ : List ℕ} → k ≡ bitsAt + id → v ≡ cell work k → IsBoth (record { bits = v }) r → r ≡ true → p ≡ preservedAt + id → table′
-      ≡ set table p 1 → PreservesIf table work id table′ true
-  preserves-both at e is d here put = record { is = sym d ∙ both-is work id at e is; some = λ _. put ∙ ap (λ (j : ℕ). set table j 1) here; none = λ z. absurd (never z) }
-    where
-      never : true ≡ false → ⊥
-      never z = let y : _≡_ {A = ℕ} 0 1 = cc in omega arith
+module _ {table work : List ℕ} {id : ℕ} {r : Bool} (at : BothAt work id r) where
+  pub preserves-both : {p : ℕ} {table′ : List ℕ} → r ≡ true → p ≡ preservedAt + id → table′ ≡ set table p 1 → PreservesIf table work id table′
+  preserves-both d here put = record { some = λ _. put ∙ ap (λ (j : ℕ). set table j 1) here; none = λ z. true-false (sym d ∙ at .is ∙ z) }
 
-  pub preserves-not : k ≡ bitsAt + id → v ≡ cell work k → IsBoth (record { bits = v }) r → r ≡ false → PreservesIf table work id table false
-  preserves-not at e is d = record { is = sym d ∙ both-is work id at e is; some = λ z. absurd (never z); none = λ _. refl }
-    where
-      never : false ≡ true → ⊥
-      never z = let y : _≡_ {A = ℕ} 0 1 = cc in omega arith
+  pub preserves-not : r ≡ false → PreservesIf table work id table
+  preserves-not d = record { some = λ z. true-false (sym z ∙ sym (at .is) ∙ d); none = λ _. refl }

@@ -1,6 +1,7 @@
 -- The passes and a root's answer: what the functions after the cycle ensure.
 use mathlib.Core.Path.{_≡_}
 use mathlib.Core.Bool.{Bool, true, false, _||_}
+use mathlib.Core.Logic.{_⊎_}
 use Prim.Native.Nat.{ℕ, _+_, _≤_, _<_}
 use mathlib.Core.List.{List}
 use lib.ListN.{length, set}
@@ -42,14 +43,23 @@ pub record OnePass (table : List ℕ) (c : Canon) (w work : List ℕ) (id : ℕ)
   pub is : {p : runs.Pass} {t : Reader} → Knows table c p t → Tabled p t → LentTo table w work → id < c .count
       → Answers (pass p t id pol) (p .count) w′ work work′ heldAt r
 
--- whether id was seen in both polarities; if so it is preserved
-pub record PreservesIf (table work : List ℕ) (id : ℕ) (table′ : List ℕ) (r : Bool) : Type 0 where
+-- whether id was seen in both polarities
+pub record BothAt (work : List ℕ) (id : ℕ) (r : Bool) : Type 0 where
   pub is : r ≡ isBoth (cell work (bitsAt + id))
-  pub some : r ≡ true → table′ ≡ set table (preservedAt + id) 1
-  pub none : r ≡ false → table′ ≡ table
 
-pub record Or (a b r : Bool) : Type 0 where
-  pub is : r ≡ a || b
+pub record BitsEnd (work : List ℕ) (count r : ℕ) : Type 0 where
+  pub within : r ≤ length work
+  pub few : r ≤ bitsAt + count
+  pub is : (r ≡ bitsAt + count) ⊎ (r ≡ length work)
+
+-- whether any id was
+pub record AnyBoth (work : List ℕ) (count : ℕ) (r : Bool) : Type 0 where
+  pub is : r ≡ any isBoth (part work bitsAt count)
+
+-- an id seen in both polarities is preserved
+pub record PreservesIf (table work : List ℕ) (id : ℕ) (table′ : List ℕ) : Type 0 where
+  pub some : isBoth (cell work (bitsAt + id)) ≡ true → table′ ≡ set table (preservedAt + id) 1
+  pub none : isBoth (cell work (bitsAt + id)) ≡ false → table′ ≡ table
 
 -- the variables seen in both polarities, preserved; whether there are any
 pub record Detects (table work : List ℕ) (count : ℕ) (table′ : List ℕ) (r : Bool) : Type 0 where
@@ -59,6 +69,9 @@ pub record Detects (table work : List ℕ) (count : ℕ) (table′ : List ℕ) (
   pub before : (k : ℕ) → k < preservedAt → cell table′ k ≡ cell table k
   pub behind : (k : ℕ) → preservedAt + count ≤ k → cell table′ k ≡ cell table k
   pub none : r ≡ false → table′ ≡ table
+
+pub record Or (a b r : Bool) : Type 0 where
+  pub is : r ≡ a || b
 
 -- the rules show these numbers too, and the arena holds the nodes of the pass shown
 pub record ShownIs (a : runs.Answer) (w : List ℕ) (sh : Shown) : Type 0 where

@@ -31,7 +31,7 @@ use storage::notes::Begun;
 use storage::notes::PolarityBits;
 use storage::vars;
 ghost use Rattle.lang_check.specs.Cycle.{Visits, Rules, Children, Each, Inner, Gathered, Expands, FallsBackTo, Inters, Again, Retries, Either, Caches, Side, IsCut};
-ghost use Rattle.lang_check.specs.Roots.{NoneCounted, OnePass, PreservesIf, Or, Detects, FirstShown, SecondShown, Canonicalizes};
+ghost use Rattle.lang_check.specs.Roots.{NoneCounted, OnePass, BothAt, BitsEnd, AnyBoth, PreservesIf, Detects, Or, FirstShown, SecondShown, Canonicalizes};
 
 // Whether a fallback begins no list: there is none, or after the bail the chain began it before.
 fn is_cut(n: u32, q: Pass, begun: Begun, pol: Polarity) -> bool
@@ -441,37 +441,65 @@ fn one_pass(
     )
 }
 
-// Whether id was seen in both polarities; if so it is preserved.
-fn preserve_if_both(table: &mut [u32], work: &[u32], id: u32) -> bool
-    ensures { λ r. ⌜ PreservesIf (now (table .entry)) (now (work .entry)) id (now (table .exit)) r ⌝ }
+// Whether id was seen in both polarities.
+fn both_at(work: &[u32], id: u32) -> bool
+    ensures { λ r. ⌜ BothAt (now (work .entry)) id r ⌝ }
 {
     let b = PolarityBits {
         bits: get(work, place(WorkSlice::BITS, id)),
     };
-    if b.is_both() {
-        put(table, place(TableSlice::PRESERVED, id), 1);
-        return true;
-    }
-    false
+    b.is_both()
 }
 
-fn or(a: bool, b: bool) -> bool
-    ensures { λ r. ⌜ Or a b r ⌝ }
+// Where the bits of count ids end, or the slice.
+fn bits_end(work: &[u32], count: u32) -> usize
+    ensures { λ r. ⌜ BitsEnd (now (work .entry)) count r ⌝ }
 {
-    if a { true } else { b }
+    let e = place(WorkSlice::BITS, count);
+    if e < work.len() {
+        return e;
+    }
+    work.len()
+}
+
+// Whether any id was seen in both polarities: mostly none was, and then nothing else is looked at. All bits are read, without a way out of the loop,
+// so that several are compared at once.
+fn any_both(work: &[u32], count: u32) -> bool
+    ensures { λ r. ⌜ AnyBoth (now (work .entry)) count r ⌝ }
+{
+    let e = bits_end(work, count);
+    let mut any = false;
+    let mut i = WorkSlice::BITS as usize;
+    while i < e {
+        let b = PolarityBits { bits: work[i] };
+        any = or(any, b.is_both());
+        i += 1;
+    }
+    any
+}
+
+// An id seen in both polarities is preserved.
+fn preserve_if_both(table: &mut [u32], work: &[u32], id: u32)
+    ensures { λ _. ⌜ PreservesIf (now (table .entry)) (now (work .entry)) id (now (table .exit)) ⌝ }
+{
+    if both_at(work, id) {
+        put(table, place(TableSlice::PRESERVED, id), 1);
+    }
 }
 
 // The variables seen in both polarities become the set that a pass preserves; whether there are any.
 fn detected_cooccurring(table: &mut [u32], work: &[u32], count: u32) -> bool
     ensures { λ r. ⌜ Detects (now (table .entry)) (now (work .entry)) count (now (table .exit)) r ⌝ }
 {
-    let mut any = false;
+    if !any_both(work, count) {
+        return false;
+    }
     let mut i = 0;
     while i < count {
-        any = or(any, preserve_if_both(table, work, i));
+        preserve_if_both(table, work, i);
         i += 1;
     }
-    any
+    true
 }
 
 // The answer of the first pass.
@@ -491,6 +519,12 @@ fn first_shown(g: Given) -> RootAnswer
         }
         Given::Refused(k) => RootAnswer::Refused(k),
     }
+}
+
+fn or(a: bool, b: bool) -> bool
+    ensures { λ r. ⌜ Or a b r ⌝ }
+{
+    if a { true } else { b }
 }
 
 // The answer of the second pass, with what the first one counted and marked.

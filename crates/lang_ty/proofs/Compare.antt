@@ -18,7 +18,8 @@ use Rattle.lang_ty.specs.declared.arc_ty.Item.the-variants.{End, Num, Ch
 use Rattle.lang_ty.specs.declared.arc_ty.Order.{Order}
 use Rattle.lang_ty.specs.declared.arc_ty.Order.the-variants.{Less, Equal, Greater}
 use Rattle.lang_ty.specs.Nodes.{Arena, Kind}
-use Rattle.lang_ty.specs.Orders.{itemOf, orderOf, Numbers, Least, Items, ItemAt, Plainly, ComparedAt, Compared}
+use Rattle.lang_ty.specs.Sets.{Least}
+use Rattle.lang_ty.specs.Orders.{itemOf, orderOf, Numbers, Items, ItemAt, Plainly, ComparedAt, Compared}
 
 -- two items, the first no child
 module _ {a b : Item} where

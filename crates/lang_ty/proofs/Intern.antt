@@ -11,11 +11,11 @@ use Rattle.cells.proofs.Holding.{holds-place}
 use Rattle.layout.specs.Layout.{arenaWords}
 use Rattle.rules.specs.Ceilings.{mostMembers, mostNodes, mostCells}
 use Rattle.cells.proofs.Sums.{sum-low, sum-most}
-use Rattle.rules.specs.Types.{State, Out, ok, Node, encode, nodeAt, members, children, grown, keep}
+use Rattle.rules.specs.Types.{State, Out, ok, Node, encode, nodeAt, members, children, asAttr, grown, keep}
 use Rattle.laws.proofs.Rows.{row-length}
 use Rattle.laws.proofs.Storing.{by-place, node-before, node-last, rooted-more, distinct-more, hit, miss, keep-full, keep-over, keep-new, store-few}
 use Rattle.laws.proofs.Indexing.{seek-finds}
-use Rattle.laws.specs.Sound.{Distinct}
+use Rattle.laws.specs.Sound.{Distinct, OrderlySet}
 use Rattle.lang_ty.specs.declared.arena.Pass.{Pass}
 use Rattle.lang_ty.specs.declared.arena.Given.{Given}
 use Rattle.lang_ty.specs.declared.arena.Given.the-variants.{Node as NodeG, Refused}
@@ -76,6 +76,11 @@ module _ {w w′ : List ℕ} {q : Pass} {ns : List Node} {n : Node} {g end count
             (λ i lt. omega (arith, h .slim i lt, ap (λ (m : Node). length (members m)) (node-before ns n i lt)))
             (omega (arith, fits .few, ap (λ (m : Node). length (members m)) (node-last ns n)));
         distinct = apart;
+        ordered = record {
+          is = by-place ns n (λ (i : ℕ). OrderlySet (asAttr (nodeAt (ns ++ (n ∷ [])) i)))
+              (λ i lt. subst (λ (m : Node). OrderlySet (asAttr m)) (sym (node-before ns n i lt)) (h .ordered .is i lt))
+              (subst (λ (m : Node). OrderlySet (asAttr m)) (sym (node-last ns n)) (fits .ordered));
+        };
         index = index-more n (h .index) j is (sym c) room;
         room = omega (arith, j .same-length, h .room);
       }

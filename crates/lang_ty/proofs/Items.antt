@@ -1,6 +1,5 @@
 -- The items that nodes are compared by, return by return. Assumes nothing.
 use mathlib.Core.Path.{_≡_, refl, sym, ap, ap₂, _∙_}
-use mathlib.Core.Logic.{inl, inr}
 use Prim.Native.Nat.{ℕ, zero, suc, _+_, _-_, _*_, _%_, _≤_, _<_}
 use native.Mathlib.Omega.{arith}
 use mathlib.Core.List.{List, _∷_, _++_}
@@ -23,7 +22,7 @@ use Rattle.lang_ty.specs.declared.arc_ty.Order.the-variants.{Less, Equal
 use Rattle.lang_ty.specs.Nodes.{Arena, Word, Kind}
 use Rattle.lang_ty.specs.Sets.{SetAt, openFrom, Fields, Dyns, DynType, OpenPlace, Open, Optionals}
 use Rattle.lang_ty.specs.Shapes.{SetPlace}
-use Rattle.lang_ty.specs.Orders.{Numbers, Least, SetItems, SetRest, SetItem, PlainItems, PlainItem, Composite, ListItem, Items, ItemAt}
+use Rattle.lang_ty.specs.Orders.{Numbers, SetItems, SetRest, SetItem, PlainItems, PlainItem, Composite, ListItem, Items, ItemAt}
 use Rattle.lang_ty.proofs.Words.{row-few, word-of}
 use Rattle.lang_ty.proofs.Shapes.{setOf, set-at}
 
@@ -36,12 +35,6 @@ module _ {a b : ℕ} where
 
   pub greater-is : b ≤ a → (a ≡ b → ⊥) → Numbers a b Greater
   greater-is h e = record { is = sym (numbers-greater a b (omega arith)) }
-
-  pub least-first : a < b → Least a b a
-  least-first h = record { first = omega arith; second = omega arith; one = inl refl }
-
-  pub least-second : b ≤ a → Least a b b
-  least-second h = record { first = omega arith; second = omega arith; one = inr refl }
 
 -- among the fields and the rest
 in-fields : (t : Attr) (i : ℕ) → getD (attrItems t) i end ≡ getD (fieldItems (t .fields) ++ restItems t) i end

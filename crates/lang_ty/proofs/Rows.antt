@@ -12,6 +12,7 @@ use Rattle.cells.proofs.Parts.{run-length, run-snoc}
 use Rattle.cells.proofs.Holding.{holds-none, holds-place, holds-list, holds-cons, holds-both, holds-ext}
 use Rattle.rules.specs.Ceilings.{mostMembers}
 use Rattle.rules.specs.Types.{State, encode, members, nodeAt}
+use Rattle.laws.specs.Sound.{OrderlySet}
 use Rattle.laws.proofs.Storing.{store-many}
 use Rattle.lang_ty.specs.declared.arena.Pass.{Pass}
 use Rattle.lang_ty.specs.declared.arena.Given.{Given}
@@ -93,6 +94,7 @@ stands-below {st} {w} {w′} {xs} {q} on h =
         below = a .below;
         slim = a .slim;
         distinct = a .distinct;
+        ordered = a .ordered;
         index = index-alike (a .index) (omega (arith, a .count, a .few)) (λ k lt. h .below k (omega (arith, high a)));
         room = omega (arith, h .same-length, a .room);
       };
@@ -157,7 +159,7 @@ module _ {w w1 : List ℕ} {q : Pass} {t k : ℕ} (top : Top w q t) where
           is = λ {st} {m = n} on l.
               let e : encode n ≡ k ∷ a ∷ part from o a = l .row ∙ ap (λ (j : ℕ). k ∷ j ∷ part from o a) long in
               stored-behind sum rest (omega arith) g .is {n = n} on
-              (record { cells = l .cells ∙ long; few = omega (arith, ap length (l .members)); below = l .below; short = omega (arith, ap length e) })
+              (record { cells = l .cells ∙ long; few = omega (arith, ap length (l .members)); below = l .below; ordered = subst OrderlySet (sym (l .plain)) tt; short = omega (arith, ap length e) })
               e;
         }
 

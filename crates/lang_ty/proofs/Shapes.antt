@@ -3,25 +3,24 @@ use mathlib.Core.Path.{_≡_, refl, sym, ap, ap₂, _∙_, subst}
 use mathlib.Core.Bool.{Bool, true, false, not, _||_}
 use Prim.Native.Nat.{ℕ, zero, suc, _+_, _≤_, _<_}
 use native.Mathlib.Omega.{arith}
-use native.Mathlib.Numerals.{add-one}
-use mathlib.Core.List.{List}
-use lib.ListN.{length, drop, length-map, drop-of-length-le}
-use lib.Seq.{drop-cons}
+use mathlib.Core.List.{List, [], _∷_}
+use lib.ListN.{length}
 use lib.Dec.{eqb, ltb, leb}
 use borrow.Author.Tests.{eq-eqb, ne-eqb, leb-true, leb-false, lt-leb, not-true, not-false}
 use Rattle.cells.specs.Part.{cell, if}
 use Rattle.cells.specs.Sum.{Sum}
 use Rattle.cells.proofs.Holding.{holds-tail, holds-place}
-use Rattle.rules.specs.Plain.{any, both, contains}
-use Rattle.rules.specs.Table.{Field, Attr, attrAt, fieldKeys}
-use Rattle.rules.specs.Types.{Node, encode, kindOf, nodeAt}
+use Rattle.rules.specs.Plain.{any, all, both, contains}
+use Rattle.rules.specs.Table.{Attr, attrAt, fieldKeys}
+use Rattle.rules.specs.Types.{Node, encode, kindOf, nodeAt, asAttr}
 use Rattle.rules.specs.Members.{is-subtype-of, lacks, Shape, attrSetS, lambdaS, shapeOf, are-shapes-disjoint, are-output-types-disjoint}
+use Rattle.laws.specs.Sound.{Orderly, OrderlySet}
 use Rattle.laws.proofs.Rows.{node-of}
 use Rattle.laws.proofs.Shapes.{shape-known, shape-other, opaque-first, opaque-second, plain-alike, other-shapes}
 use Rattle.lang_ty.specs.declared.arena.Pass.{Pass}
 use Rattle.lang_ty.specs.Nodes.{Arena, Word, Kind}
-use Rattle.lang_ty.specs.Sets.{SetAt, Fields, Key, Open, HasField, HasOptional}
-use Rattle.lang_ty.specs.Shapes.{Subtype, SetPlace, Alone, Lacks, Apart, Constructor, SameDisjoint, Disjoint}
+use Rattle.lang_ty.specs.Sets.{SetAt, Open, HasField, covers, FieldsCover}
+use Rattle.lang_ty.specs.Shapes.{Subtype, SetPlace, Lacks, Apart, Constructor, SameDisjoint, Disjoint}
 use Rattle.lang_ty.proofs.Words.{row-few, primitive-at}
 use Rattle.cells.specs.Placed.{Holds}
 
@@ -47,70 +46,42 @@ set-place-is {w} {x} {a} {r} e sum =
           };
     }
 
--- neither of two, by a test of one and then the other
-neither-first : {a : Bool} (b : Bool) → true ≡ a → false ≡ not (a || b)
-neither-first {a} b e = ap (λ (t : Bool). not (t || b)) e
+-- a field that t lacks and u requires: one that u's keys do not cover
+any-all : (p q : ℕ → Bool) (xs : List ℕ) → ((k : ℕ) → p k ≡ not (q k)) → any p xs ≡ not (all q xs)
+any-all p q [] h = refl
+any-all p q (x ∷ xs) h =
+    ap (λ (b : Bool). if b (λ _. true) (λ _. any p xs)) (h x) ∙ turn (q x) (any-all p q xs h) where
+      turn : (b : Bool) → any p xs ≡ not (all q xs) → if (not b) (λ _. true) (λ _. any p xs) ≡ not (if b (λ _. all q xs) (λ _. false))
+      turn true e = e
+      turn false e = refl
 
-neither-second : {a b r s : Bool} → false ≡ a → s ≡ b → r ≡ not s → r ≡ not (a || b)
-neither-second {a} {b} e f g = g ∙ ap not f ∙ ap (λ (t : Bool). not (t || b)) e
+or-swap : (a b : Bool) → (a || b) ≡ (b || a)
+or-swap true true = refl
+or-swap true false = refl
+or-swap false true = refl
+or-swap false false = refl
 
-module _ {w : List ℕ} {a b k : ℕ} {f : Bool} (has : HasField w a k f) where
-  pub alone-first : f ≡ true → Alone w a b k false
-  alone-first e = record { is = λ {t} {u} s v. neither-first (contains (u .optional) k) (sym e ∙ has .is s) }
-
-  pub alone-second : {g r : Bool} → f ≡ false → HasOptional w b k g → r ≡ not g → Alone w a b k r
-  alone-second e o g = record { is = λ {t} {u} s v. neither-second (sym e ∙ has .is s) (o .is v) g }
-
--- `lacks` at field i of b: what is left to look at says what the whole says
-abbrev alike : Attr → Attr → ℕ → Bool
-alike t u k = not (contains (fieldKeys (t .fields)) k || contains (u .optional) k)
-
-pub record Lacking (w : List ℕ) (a b n i : ℕ) : Type 0 where
-  pub few : i ≤ n
-  pub is : {t u : Attr} → SetAt w a t → SetAt w b u → any (alike t u) (drop i (fieldKeys (u .fields))) ≡ any (alike t u) (fieldKeys (u .fields))
+lacks-covers : (t u : Attr) → lacks t u ≡ both (eqb (t .isOpen) 0) (λ _. not (all (covers u t) (fieldKeys (u .fields))))
+lacks-covers t u =
+    ap (λ (b : Bool). both (eqb (t .isOpen) 0) (λ _. b))
+    (any-all _ (covers u t) (fieldKeys (u .fields)) (λ k. ap not (or-swap (contains (fieldKeys (t .fields)) k) (contains (u .optional) k))))
 
 module _ {w : List ℕ} {a b o : ℕ} (closed : Open w a o) where
   pub lacks-open : (o ≡ 0 → ⊥) → Lacks w a b false
   lacks-open h =
-      record { is = λ {t} {u} s v. sym (ap (λ (c : Bool). both c (λ _. any (alike t u) (fieldKeys (u .fields)))) (ne-eqb (t .isOpen) 0 (λ z. h (closed .is s ∙ z)))) }
+      record {
+        is = λ {t} {u} s v p q.
+            sym (ap (λ (c : Bool). both c (λ _. not (all (covers u t) (fieldKeys (u .fields))))) (ne-eqb (t .isOpen) 0 (λ z. h (closed .is s ∙ z)))) ∙ sym (lacks-covers t u);
+      }
 
-  whole : {r : Bool} → o ≡ 0 → ((t u : Attr) → SetAt w a t → SetAt w b u → r ≡ any (alike t u) (fieldKeys (u .fields))) → Lacks w a b r
-  whole h g =
-      record { is = λ {t} {u} s v. g t u s v ∙ sym (ap (λ (c : Bool). both c (λ _. any (alike t u) (fieldKeys (u .fields)))) (eq-eqb (t .isOpen) 0 (sym (closed .is s) ∙ h))) }
-
-module _ {w : List ℕ} {a b n : ℕ} where
-  pub lacking-start : Lacking w a b n 0
-  lacking-start = record { few = omega arith; is = λ s v. refl }
-
-  module _ {i k : ℕ} {c : Bool} (l : Lacking w a b n i) (fields : Fields w b n) (key : Key w b i k) (alone : Alone w a b k c) (lt : i < n) where
-    turn : {t u : Attr} → SetAt w a t → SetAt w b u → if c (λ _. true) (λ _. any (alike t u) (drop (suc i) (fieldKeys (u .fields)))) ≡ any (alike t u) (fieldKeys (u .fields))
-    turn {t} {u} s v =
-        let m = fields .is v in
-        let ks = fieldKeys (u .fields) in
-        ap (λ (x : Bool). if x (λ _. true) (λ _. any (alike t u) (drop (suc i) ks))) (alone .is s v ∙ ap (alike t u) (key .is v (omega arith)))
-        ∙ sym (ap (any (alike t u)) (drop-cons ks i 0 (omega (arith, length-map (u .fields) (λ (f : Field). f .key)))))
-        ∙ l .is s v
-
-    pub lacking-here : {o : ℕ} → Open w a o → o ≡ 0 → c ≡ true → Lacks w a b true
-    lacking-here closed z e =
-        whole closed z (λ t u s v. sym (ap (λ (x : Bool). if x (λ _. true) (λ _. any (alike t u) (drop (suc i) (fieldKeys (u .fields))))) e) ∙ turn s v)
-
-    pub lacking-more : c ≡ false → Lacking w a b n (i + 1)
-    lacking-more e =
-        record {
-          few = omega arith;
-          is = λ {t} {u} s v.
-              ap (λ (j : ℕ). any (alike t u) (drop j (fieldKeys (u .fields)))) (add-one i)
-              ∙ sym (ap (λ (x : Bool). if x (λ _. true) (λ _. any (alike t u) (drop (suc i) (fieldKeys (u .fields))))) e)
-              ∙ turn s v;
-        }
-
-  pub lacking-done : {i o : ℕ} → Lacking w a b n i → Fields w b n → n ≤ i → Open w a o → o ≡ 0 → Lacks w a b false
-  lacking-done {i} l fields h closed z =
-      whole closed z
-      (λ t u s v.
-      let m = fields .is v in
-      sym (ap (any (alike t u)) (drop-of-length-le (fieldKeys (u .fields)) {i = i} (omega (arith, length-map (u .fields) (λ (f : Field). f .key))))) ∙ l .is s v)
+  pub lacks-closed : {c r : Bool} → o ≡ 0 → FieldsCover w b a c → r ≡ not c → Lacks w a b r
+  lacks-closed h f e =
+      record {
+        is = λ {t} {u} s v p q.
+            e ∙ ap not (f .is v s q p)
+            ∙ sym (ap (λ (c : Bool). both c (λ _. not (all (covers u t) (fieldKeys (u .fields))))) (eq-eqb (t .isOpen) 0 (sym (closed .is s) ∙ h)))
+            ∙ sym (lacks-covers t u);
+      }
 
 module _ {a b : ℕ} where
   pub apart-equal : a ≡ b → Apart a b false
@@ -156,10 +127,13 @@ constructor-some {k} h e = record { is = e ∙ known-low k h }
 abbrev pub setOf : List Node → ℕ → Attr
 setOf ns x = attrAt (encode (nodeAt ns x)) 1
 
--- where the set of a node of kind 4 stands
+-- where the set of a node of kind 4 stands, and that its keys are in order
 module _ {w : List ℕ} {q : Pass} {ns : List Node} {x : ℕ} (h : Arena w q ns) (lt : x < length ns) where
   pub set-at : {p : ℕ} → kindOf (nodeAt ns x) ≡ 4 → SetPlace w x p → SetAt w p (setOf ns x)
   set-at e p = p .is h lt (sym (node-of (nodeAt ns x) 4 e))
+
+  pub set-orderly : kindOf (nodeAt ns x) ≡ 4 → Orderly (setOf ns x)
+  set-orderly e = subst (λ (n : Node). OrderlySet (asAttr n)) (sym (node-of (nodeAt ns x) 4 e)) (h .ordered .is x lt)
 
 -- disjointness by the shapes of the two nodes
 by-shapes : (ns : List Node) (functor a b : ℕ) {s t : Shape} {r : Bool} → s ≡ shapeOf (nodeAt ns a) → t ≡ shapeOf (nodeAt ns b) → r ≡ are-shapes-disjoint functor s t
@@ -199,7 +173,7 @@ module _ {w : List ℕ} {k a b : ℕ} where
         record {
           is = λ {q} {ns} h la lb ea eb low high functor.
               by-shapes ns functor a b (set-shape ns a (ea ∙ e)) (set-shape ns b (eb ∙ e))
-              (ap (λ (z : Bool). z || lacks (setOf ns b) (setOf ns a)) (sym t ∙ one .is (set-at h la (ea ∙ e) px) (set-at h lb (eb ∙ e) py)));
+              (ap (λ (z : Bool). z || lacks (setOf ns b) (setOf ns a)) (sym t ∙ one .is (set-at h la (ea ∙ e) px) (set-at h lb (eb ∙ e) py) (set-orderly h la (ea ∙ e)) (set-orderly h lb (eb ∙ e))));
         }
 
     pub same-second : {d : Bool} → c ≡ false → Lacks w y x d → SameDisjoint w k a b d
@@ -209,8 +183,10 @@ module _ {w : List ℕ} {k a b : ℕ} where
           is = λ {q} {ns} h la lb ea eb low high functor.
               let sa = set-at h la (ea ∙ e) px in
               let sb = set-at h lb (eb ∙ e) py in
+              let oa = set-orderly h la (ea ∙ e) in
+              let ob = set-orderly h lb (eb ∙ e) in
               by-shapes ns functor a b (set-shape ns a (ea ∙ e)) (set-shape ns b (eb ∙ e))
-              (two .is sb sa ∙ ap (λ (z : Bool). z || lacks (setOf ns b) (setOf ns a)) (sym t ∙ one .is sa sb));
+              (two .is sb sa ob oa ∙ ap (λ (z : Bool). z || lacks (setOf ns b) (setOf ns a)) (sym t ∙ one .is sa sb oa ob));
         }
 
 -- two nodes
@@ -247,7 +223,7 @@ module _ {w : List ℕ} {functor a b j k : ℕ} (first : Kind w a j) (second : K
       record {
         is = λ {q} {ns} h la lb.
             let x = sym (first .is h la) ∙ e in
-            by-shapes ns functor a b (set-shape ns a x) (lambda-shape ns b (sym (second .is h lb) ∙ f)) (n ∙ ap not (g .is (set-at h la x p)));
+            by-shapes ns functor a b (set-shape ns a x) (lambda-shape ns b (sym (second .is h lb) ∙ f)) (n ∙ ap not (g .is (set-at h la x p) (set-orderly h la x)));
       }
 
   pub disjoint-lambda-set : {p : ℕ} {c r : Bool} → j ≡ 3 → k ≡ 4 → SetPlace w b p → HasField w p functor c → r ≡ not c → Disjoint w functor a b r
@@ -256,7 +232,7 @@ module _ {w : List ℕ} {functor a b j k : ℕ} (first : Kind w a j) (second : K
       record {
         is = λ {q} {ns} h la lb.
             let x = sym (second .is h lb) ∙ f in
-            by-shapes ns functor a b (lambda-shape ns a (sym (first .is h la) ∙ e)) (set-shape ns b x) (n ∙ ap not (g .is (set-at h lb x p)));
+            by-shapes ns functor a b (lambda-shape ns a (sym (first .is h la) ∙ e)) (set-shape ns b x) (n ∙ ap not (g .is (set-at h lb x p) (set-orderly h lb x)));
       }
 
   -- neither alike nor a set and a lambda

@@ -33,32 +33,32 @@ module _ {st : State} {w w′ : List ℕ} {q : Pass} {r : Given} (on : Stands st
   plain n h f = h .is {n = n} on f refl
 
   pub stored-bottom : Stored (9 ∷ []) 0 w q w′ r → Answers (store Bottom st) w′ r
-  stored-bottom h = plain Bottom h (record { cells = refl; few = omega arith; below = tt; short = omega arith })
+  stored-bottom h = plain Bottom h (record { cells = refl; few = omega arith; below = tt; ordered = tt; short = omega arith })
 
   module _ {a : ℕ} where
     pub stored-tyvar : Stored (0 ∷ a ∷ []) 0 w q w′ r → Answers (store (TyVar a) st) w′ r
-    stored-tyvar h = plain (TyVar a) h (record { cells = refl; few = omega arith; below = tt; short = omega arith })
+    stored-tyvar h = plain (TyVar a) h (record { cells = refl; few = omega arith; below = tt; ordered = tt; short = omega arith })
 
     pub stored-primitive : Stored (1 ∷ a ∷ []) 0 w q w′ r → Answers (store (Primitive a) st) w′ r
-    stored-primitive h = plain (Primitive a) h (record { cells = refl; few = omega arith; below = tt; short = omega arith })
+    stored-primitive h = plain (Primitive a) h (record { cells = refl; few = omega arith; below = tt; ordered = tt; short = omega arith })
 
     pub stored-list : Stored (2 ∷ a ∷ []) 0 w q w′ r → a < q .nodes → Answers (store (ListOf a) st) w′ r
-    stored-list h lt = plain (ListOf a) h (record { cells = refl; few = omega arith; below = (lt, tt); short = omega arith })
+    stored-list h lt = plain (ListOf a) h (record { cells = refl; few = omega arith; below = (lt, tt); ordered = tt; short = omega arith })
 
     module _ {b : ℕ} where
       pub stored-lambda : Stored (3 ∷ a ∷ b ∷ []) 0 w q w′ r → a < q .nodes → b < q .nodes → Answers (store (Lambda a b) st) w′ r
-      stored-lambda h lt lt′ = plain (Lambda a b) h (record { cells = refl; few = omega arith; below = (lt, (lt′, tt)); short = omega arith })
+      stored-lambda h lt lt′ = plain (Lambda a b) h (record { cells = refl; few = omega arith; below = (lt, (lt′, tt)); ordered = tt; short = omega arith })
 
       pub stored-named : Stored (7 ∷ a ∷ b ∷ []) 0 w q w′ r → b < q .nodes → Answers (store (Named a b) st) w′ r
-      stored-named h lt = plain (Named a b) h (record { cells = refl; few = omega arith; below = (lt, tt); short = omega arith })
+      stored-named h lt = plain (Named a b) h (record { cells = refl; few = omega arith; below = (lt, tt); ordered = tt; short = omega arith })
 
       pub stored-union : Stored (5 ∷ 2 ∷ a ∷ b ∷ []) 2 w q w′ r → a < q .nodes → b < q .nodes → Answers (store (Union (a ∷ b ∷ [])) st) w′ r
       stored-union h lt lt′ =
-          h .is {n = Union (a ∷ b ∷ [])} on (record { cells = refl; few = omega arith; below = (lt, (lt′, tt)); short = omega arith }) refl
+          h .is {n = Union (a ∷ b ∷ [])} on (record { cells = refl; few = omega arith; below = (lt, (lt′, tt)); ordered = tt; short = omega arith }) refl
 
       pub stored-intersection : Stored (6 ∷ 2 ∷ a ∷ b ∷ []) 2 w q w′ r → a < q .nodes → b < q .nodes → Answers (store (Intersection (a ∷ b ∷ [])) st) w′ r
       stored-intersection h lt lt′ =
-          h .is {n = Intersection (a ∷ b ∷ [])} on (record { cells = refl; few = omega arith; below = (lt, (lt′, tt)); short = omega arith }) refl
+          h .is {n = Intersection (a ∷ b ∷ [])} on (record { cells = refl; few = omega arith; below = (lt, (lt′, tt)); ordered = tt; short = omega arith }) refl
 
 -- the slice holds no node
 pub fresh-is : {w w₁ w₂ : List ℕ} → Clears w newestAt buckets w₁ → w₂ ≡ set w₁ 0 arenaWords → length w₁ ≡ length w → Fresh w w₂
@@ -79,6 +79,7 @@ fresh-is {w} {w₁} {w₂} cl e size =
             below = λ i lt. absurd (not-suc-le-zero lt);
             slim = λ i lt. absurd (not-suc-le-zero lt);
             distinct = distinct-none;
+            ordered = record { is = λ i lt. absurd (not-suc-le-zero lt) };
             index = record {
               newest-of = λ b lt.
                   ap (λ (l : List ℕ). cell l (newestAt + b)) e ∙ getD-set-other w₁ 0 (newestAt + b) arenaWords 0 (λ z. omega arith)

@@ -104,6 +104,7 @@ arena-pass {w} e f a =
       below = a .below;
       slim = a .slim;
       distinct = a .distinct;
+      ordered = a .ordered;
       index = a .index;
       room = a .room;
     }

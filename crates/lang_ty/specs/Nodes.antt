@@ -9,7 +9,7 @@ use lib.ListN.{length, getD, set}
 use Rattle.cells.specs.Part.{cell, part, eqList}
 use Rattle.layout.specs.Layout.{arenaWords, arenaLength}
 use Rattle.rules.specs.Ceilings.{mostMembers, mostNodes, mostCells}
-use Rattle.rules.specs.Types.{State, Out, ok, no, encode, kindOf, members, children, cellsOf, nodeAt, store}
+use Rattle.rules.specs.Types.{State, Out, ok, no, encode, kindOf, members, children, cellsOf, asAttr, nodeAt, store}
 use Rattle.rules.specs.Types as rules
 use Rattle.rules.specs.Canonicalizer as runs
 use Rattle.lang_ty.specs.declared.arena.Pass.{Pass}
@@ -19,7 +19,7 @@ use Rattle.lang_ty.specs.declared.arena.Shown.{Shown}
 use Rattle.lang_ty.specs.declared.arena.Found.{Found}
 use Rattle.lang_ty.specs.declared.arena.Found.the-variants.{At, Nowhere}
 use Rattle.cells.specs.Placed.{Holds, Under}
-use Rattle.laws.specs.Sound.{Distinct}
+use Rattle.laws.specs.Sound.{Distinct, OrderlySet, Ordered}
 use Rattle.laws.specs.Indexed.{seekNode}
 use Rattle.lang_ty.specs.Buckets.{hash, bucket, Indexed}
 
@@ -27,7 +27,7 @@ use Rattle.lang_ty.specs.Buckets.{hash, bucket, Indexed}
 abbrev pub highest : ℕ
 highest = arenaWords + 6 * mostNodes + mostCells
 
--- the slice holds these nodes, "children first", each once, none with more members than may be, and an index of them. A row has at most 6 words
+-- the slice holds these nodes, "children first", each once, none with more members than may be, the keys of sets in order, and an index of them. A row has at most 6 words
 -- besides its cells, so that there is room for one of 4,096 words after the last
 pub record Arena (w : List ℕ) (q : Pass) (ns : List rules.Node) : Type 0 where
   pub count : length ns ≡ q .nodes
@@ -40,6 +40,7 @@ pub record Arena (w : List ℕ) (q : Pass) (ns : List rules.Node) : Type 0 where
   pub below : (i : ℕ) → i < length ns → Under i (children (nodeAt ns i))
   pub slim : (i : ℕ) → i < length ns → length (members (nodeAt ns i)) ≤ mostMembers
   pub distinct : Distinct ns
+  pub ordered : Ordered ns
   pub index : Indexed w ns
   pub room : arenaLength ≤ length w
 
@@ -117,12 +118,13 @@ foundOf Nowhere = none
 pub record Sought (w : List ℕ) (h top len : ℕ) (r : Found) : Type 0 where
   pub is : {q : Pass} {ns : List rules.Node} {n : rules.Node} → Offered w q top len ns n → h ≡ hash (encode n) → foundOf r ≡ seekNode bucket n ns
 
--- what is asked of a node that is to be stored after k others: its cells, members no more than may be, its children among those, and a
--- row that has room
+-- what is asked of a node that is to be stored after k others: its cells, members no more than may be, its children among those, keys in order,
+-- and a row that has room
 pub record Fits (n : rules.Node) (k count : ℕ) : Type 0 where
   pub cells : cellsOf n ≡ count
   pub few : length (members n) ≤ mostMembers
   pub below : Under k (children n)
+  pub ordered : OrderlySet (asAttr n)
   pub short : length (encode n) ≤ 4096
 
 -- n as the next node; 8 where it would be a 4,097th, 9 where "node cells in a pass would pass 16,384"
@@ -161,6 +163,7 @@ pub record Lists (m : rules.Node) (kind : ℕ) (xs : List ℕ) (k : ℕ) : Type 
   pub row : encode m ≡ kind ∷ length xs ∷ xs
   pub cells : cellsOf m ≡ length xs
   pub members : rules.members m ≡ xs
+  pub plain : asAttr m ≡ none
   pub below : Under k (children m)
 
 -- a union or an intersection of the n numbers from a on; 7 where the member list "of a stored type, would pass 128"

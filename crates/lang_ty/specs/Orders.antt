@@ -1,7 +1,6 @@
 -- What the functions of arc_ty.rt ensure: a node's children, and the order of nodes.
 use mathlib.Core.Path.{_≡_}
 use Prim.Native.Nat.{ℕ, suc, _+_, _*_, _≤_, _<_}
-use mathlib.Core.Logic.{_⊎_}
 use mathlib.Core.List.{List, _∷_}
 use lib.ListN.{length, getD, drop}
 use Rattle.rules.specs.Table.{Attr}
@@ -41,11 +40,6 @@ orderOf Greater = greater
 
 pub record Numbers (a b : ℕ) (r : Order) : Type 0 where
   pub is : orderOf r ≡ compareNumbers a b
-
-pub record Least (a b r : ℕ) : Type 0 where
-  pub first : r ≤ a
-  pub second : r ≤ b
-  pub one : (r ≡ a) ⊎ (r ≡ b)
 
 -- how many items the set at a has, and item i of them, of all and of those after its fields
 pub record SetItems (w : List ℕ) (a r : ℕ) : Type 0 where

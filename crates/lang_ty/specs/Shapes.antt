@@ -1,14 +1,14 @@
 -- What the functions of primitive.rt and disjoint.rt ensure.
 use mathlib.Core.Path.{_≡_}
-use mathlib.Core.Bool.{Bool, not, _||_}
+use mathlib.Core.Bool.{Bool, _||_}
 use Prim.Native.Nat.{ℕ, _≤_, _<_}
 use mathlib.Core.List.{List}
 use lib.ListN.{length}
 use lib.Dec.{eqb}
-use Rattle.rules.specs.Plain.{contains}
-use Rattle.rules.specs.Table.{Attr, fieldKeys}
+use Rattle.rules.specs.Table.{Attr}
 use Rattle.rules.specs.Types.{Node, AttrSet, kindOf, nodeAt}
 use Rattle.rules.specs.Members.{is-subtype-of, primitivesDisjoint, lacks, are-output-types-disjoint}
+use Rattle.laws.specs.Sound.{Orderly}
 use Rattle.lang_ty.specs.declared.arena.Pass.{Pass}
 use Rattle.lang_ty.specs.Nodes.{Arena}
 use Rattle.lang_ty.specs.Sets.{SetAt}
@@ -21,12 +21,8 @@ pub record Subtype (a b : ℕ) (r : Bool) : Type 0 where
 pub record SetPlace (w : List ℕ) (x r : ℕ) : Type 0 where
   pub is : {q : Pass} {ns : List Node} {t : Attr} → Arena w q ns → x < length ns → nodeAt ns x ≡ AttrSet t → SetAt w r t
 
--- the set at b requires the field k, and the one at a lacks it
-pub record Alone (w : List ℕ) (a b k : ℕ) (r : Bool) : Type 0 where
-  pub is : {t u : Attr} → SetAt w a t → SetAt w b u → r ≡ not (contains (fieldKeys (t .fields)) k || contains (u .optional) k)
-
 pub record Lacks (w : List ℕ) (a b : ℕ) (r : Bool) : Type 0 where
-  pub is : {t u : Attr} → SetAt w a t → SetAt w b u → r ≡ lacks t u
+  pub is : {t u : Attr} → SetAt w a t → SetAt w b u → Orderly t → Orderly u → r ≡ lacks t u
 
 pub record Apart (a b : ℕ) (r : Bool) : Type 0 where
   pub is : r ≡ primitivesDisjoint a b

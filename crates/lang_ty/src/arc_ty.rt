@@ -7,7 +7,7 @@ use crate::disjoint::set_place;
 use cells::add;
 use cells::get;
 use cells::place;
-ghost use Rattle.lang_ty.specs.Orders.{FirstChild, Children, ChildAt, Numbers, Least, SetItems, SetRest, SetItem, PlainItems, PlainItem, ListItem, Items, ItemAt, Plainly, ComparedAt, Compared};
+ghost use Rattle.lang_ty.specs.Orders.{FirstChild, Children, ChildAt, Numbers, SetItems, SetRest, SetItem, PlainItems, PlainItem, ListItem, Items, ItemAt, Plainly, ComparedAt, Compared};
 
 // How many children node x has.
 pub fn children(arena: &[u32], x: u32) -> u32
@@ -87,15 +87,6 @@ fn compare_numbers(a: u32, b: u32) -> Order
         return Order::Equal;
     }
     Order::Greater
-}
-
-fn least(a: u32, b: u32) -> u32
-    ensures { λ r. ⌜ Least a b r ⌝ }
-{
-    if a < b {
-        return a;
-    }
-    b
 }
 
 // How many items the set at a has: its fields and their end, dyn or none, open, the optional keys and their end.
@@ -275,7 +266,7 @@ pub fn compare(arena: &[u32], a: u32, b: u32) -> Order
     }
     let n = items(arena, a);
     let m = items(arena, b);
-    let l = least(n, m);
+    let l = attrset::least(n, m);
     let mut i = 0;
     while i < l {
         match compare_item(arena, a, b, i) {

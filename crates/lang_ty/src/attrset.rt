@@ -4,7 +4,9 @@ use cells::add;
 use cells::at;
 use cells::get;
 use cells::place;
-ghost use Rattle.lang_ty.specs.Sets.{Fields, Key, FieldType, DynPlace, Dyns, DynType, OpenPlace, Open, Optionals, Among, HasField, HasOptional};
+ghost use Rattle.lang_ty.specs.Sets.{Fields, Key, FieldType, DynPlace, Dyns, DynType, OpenPlace, Open, Optionals, FieldKeys, OptionalKeys, KeysFrom};
+ghost use Rattle.lang_ty.specs.Sets.{Starts, BehindFirst, HasField, Walked, Least, AlikeFields, WalkBehind, FieldsCover};
+ghost use Prim.Native.Nat.{_≤_};
 
 pub fn fields(words: &[u32], a: u32) -> u32
     ensures { λ r. ⌜ Fields (now (words .entry)) a r ⌝ }
@@ -65,31 +67,169 @@ pub fn optionals(words: &[u32], a: u32) -> u32
     get(words, place(open_place(words, a), 1))
 }
 
-// Whether k is among the n words from a on, step words apart.
-fn among(words: &[u32], a: u32, n: u32, step: u32, k: u32) -> bool
-    ensures { λ r. ⌜ Among (now (words .entry)) a n step k r ⌝ }
+// Keys of a list that are left to be looked at: so many, from a place on. Fields' keys stand two words apart, optional keys one.
+pub struct Keys {
+    pub at: u32,
+    pub left: u32,
+}
+
+pub fn field_keys(words: &[u32], a: u32) -> Keys
+    ensures { λ r. ⌜ FieldKeys (now (words .entry)) a r ⌝ }
 {
-    let mut i = 0;
-    let mut p = a;
-    while i < n {
-        if at(words, p) == k {
-            return true;
+    Keys {
+        at: add(a, 1),
+        left: fields(words, a),
+    }
+}
+
+pub fn optional_keys(words: &[u32], a: u32) -> Keys
+    ensures { λ r. ⌜ OptionalKeys (now (words .entry)) a r ⌝ }
+{
+    let o = open_place(words, a);
+    Keys {
+        at: add(o, 2),
+        left: get(words, place(o, 1)),
+    }
+}
+
+// What is left of the keys from k on: who asks for keys that ascend walks along a list once.
+pub fn keys_from(words: &[u32], ks: Keys, step: u32, k: u32) -> Keys
+    ensures { λ r. ⌜ KeysFrom (now (words .entry)) ks step k r ⌝ }
+{
+    let mut p = ks.at;
+    let mut n = ks.left;
+    while 0 < n {
+        if k <= at(words, p) {
+            return Keys { at: p, left: n };
         }
         p = add(p, step);
-        i += 1;
+        n -= 1;
     }
-    false
+    Keys { at: p, left: n }
+}
+
+// Whether the first of the keys that are left is k.
+pub fn starts(words: &[u32], ks: Keys, k: u32) -> bool
+    ensures { λ r. ⌜ Starts (now (words .entry)) ks k r ⌝ }
+{
+    if ks.left == 0 {
+        return false;
+    }
+    at(words, ks.at) == k
+}
+
+// The keys that are left but for the first.
+fn behind_first(ks: Keys, step: u32) -> Keys
+    ensures { λ r. ⌜ BehindFirst ks step r ⌝ }
+{
+    if ks.left == 0 {
+        return ks;
+    }
+    Keys {
+        at: add(ks.at, step),
+        left: ks.left - 1,
+    }
 }
 
 pub fn has_field(words: &[u32], a: u32, k: u32) -> bool
     ensures { λ r. ⌜ HasField (now (words .entry)) a k r ⌝ }
 {
-    among(words, add(a, 1), fields(words, a), 2, k)
+    let ks = keys_from(words, field_keys(words, a), 2, k);
+    starts(words, ks, k)
 }
 
-pub fn has_optional(words: &[u32], a: u32, k: u32) -> bool
-    ensures { λ r. ⌜ HasOptional (now (words .entry)) a k r ⌝ }
+// A walk along the keys of two sets: what is left of the one's optional keys and of the other's keys, and whether the last key was among either.
+struct Walk {
+    optional: Keys,
+    other: Keys,
+    covered: bool,
+}
+
+// The walk at the next key.
+fn walked(words: &[u32], w: Walk, k: u32) -> Walk
+    ensures { λ r. ⌜ Walked (now (words .entry)) w k r ⌝ }
 {
-    let o = open_place(words, a);
-    among(words, add(o, 2), get(words, place(o, 1)), 1, k)
+    let before = w.other;
+    let other = keys_from(words, before, 2, k);
+    let left = w.optional;
+    if starts(words, other, k) {
+        return Walk {
+            optional: left,
+            other: behind_first(other, 2),
+            covered: true,
+        };
+    }
+    let optional = keys_from(words, left, 1, k);
+    let covered = starts(words, optional, k);
+    Walk {
+        optional,
+        other,
+        covered,
+    }
+}
+
+pub fn least(a: u32, b: u32) -> u32
+    ensures { λ r. ⌜ Least a b r ⌝ }
+{
+    if a < b { a } else { b }
+}
+
+// How many of the first n fields of two sets have the same keys. Sets that are compared are often alike at first, and who asks for no more than
+// that needs no walk: two cells are read for each key.
+fn alike_fields(words: &[u32], a: u32, b: u32, n: u32) -> u32
+    ensures { λ r. ⌜ AlikeFields (now (words .entry)) a b n r ⌝ }
+{
+    let p = place(a, 1);
+    let q = place(b, 1);
+    let e = place(n, n);
+    if words.len() < p + e {
+        return 0;
+    }
+    if words.len() < q + e {
+        return 0;
+    }
+    let mut i = 0;
+    let mut r = 0;
+    while r < n {
+        if words[p + i] != words[q + i] {
+            return r;
+        }
+        i += 2;
+        r += 1;
+    }
+    r
+}
+
+// The walk behind the first r keys, which two sets share.
+fn walk_behind(words: &[u32], a: u32, b: u32, m: u32, r: u32) -> Walk
+    requires { ⌜ r ≤ m ⌝ }
+    ensures { λ w. ⌜ WalkBehind (now (words .entry)) a b m r w ⌝ }
+{
+    let other = Keys {
+        at: add(add(b, 1), add(r, r)),
+        left: m - r,
+    };
+    Walk {
+        optional: optional_keys(words, a),
+        other,
+        covered: true,
+    }
+}
+
+// Each field of the set at a that it requires is one of the set at b.
+pub fn fields_cover(words: &[u32], a: u32, b: u32) -> bool
+    ensures { λ r. ⌜ FieldsCover (now (words .entry)) a b r ⌝ }
+{
+    let n = fields(words, a);
+    let m = fields(words, b);
+    let mut i = alike_fields(words, a, b, least(n, m));
+    let mut w = walk_behind(words, a, b, m, i);
+    while i < n {
+        w = walked(words, w, key(words, a, i));
+        if !w.covered {
+            return false;
+        }
+        i += 1;
+    }
+    true
 }

@@ -5,23 +5,13 @@ use crate::attrset;
 use crate::primitive;
 use cells::add;
 use cells::at;
-ghost use Rattle.lang_ty.specs.Shapes.{SetPlace, Alone, Lacks, Apart, Constructor, SameDisjoint, Disjoint};
+ghost use Rattle.lang_ty.specs.Shapes.{SetPlace, Lacks, Apart, Constructor, SameDisjoint, Disjoint};
 
 // The set's place in the row of node x.
 pub fn set_place(arena: &[u32], x: u32) -> u32
     ensures { λ r. ⌜ SetPlace (now (arena .entry)) x r ⌝ }
 {
     add(at(arena, x), 1)
-}
-
-// Whether the set at b requires the field k, and the one at a lacks it.
-fn alone(words: &[u32], a: u32, b: u32, k: u32) -> bool
-    ensures { λ r. ⌜ Alone (now (words .entry)) a b k r ⌝ }
-{
-    if attrset::has_field(words, a, k) {
-        return false;
-    }
-    !attrset::has_optional(words, b, k)
 }
 
 // The set at a is closed, and the one at b requires a field that it lacks.
@@ -31,15 +21,7 @@ fn lacks(words: &[u32], a: u32, b: u32) -> bool
     if attrset::open(words, a) != 0 {
         return false;
     }
-    let n = attrset::fields(words, b);
-    let mut i = 0;
-    while i < n {
-        if alone(words, a, b, attrset::key(words, b, i)) {
-            return true;
-        }
-        i += 1;
-    }
-    false
+    !attrset::fields_cover(words, b, a)
 }
 
 fn primitives_disjoint(a: u32, b: u32) -> bool

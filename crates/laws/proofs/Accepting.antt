@@ -13,7 +13,7 @@ use Rattle.rules.specs.Ceilings.{mostNames, mostIds}
 use Rattle.rules.specs.Table.{Attr, Entry, fieldKeys, kids, asSet, keysIn, aliases, keysAscend, entryOf, Root, Table, rootOf, accepted, allBelow, tableOf}
 use Rattle.rules.specs.Canonicalizer.{Reader, readerOf, firstPass}
 use Rattle.laws.specs.Sound.{OrderlySet, idsOf, Tabled}
-use Rattle.laws.proofs.Keeping.{ascending-few}
+use Rattle.laws.proofs.Ascending.{ascending-few}
 use Rattle.laws.proofs.Admitting.{both-parts, Accepts, each-at, inSequence, weights, rangeIn, rootIn, Whole, WholeTable, whole}
 use Rattle.laws.proofs.Joining.{representative-below}
 use Rattle.laws.proofs.Filtering.{under-front, under-back, under-most}
@@ -32,7 +32,8 @@ orderly-set n (some a) le h u =
     record {
       ascend = b .0;
       named = under-most _ _ (fieldKeys (a .fields)) le (under-front n (fieldKeys (a .fields)) (a .optional) u);
-      optional = ascending-few mostNames (a .optional) (b .1) (under-most _ _ (a .optional) le (under-back n (fieldKeys (a .fields)) (a .optional) u));
+      few = ascending-few mostNames (a .optional) (b .1) (under-most _ _ (a .optional) le (under-back n (fieldKeys (a .fields)) (a .optional) u));
+      optional = b .1;
     }
 
 -- ids are among what is weighed

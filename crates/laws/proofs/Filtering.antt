@@ -41,6 +41,21 @@ module _ (p : ℕ → Bool) where
   filter-under k [] h = tt
   filter-under k (x ∷ xs) h = let g = filter-under k xs (h .1) in by-branch (Under k) (p x) _ _ (h .0, g) g
 
+-- a filter after another, and one that leaves all
+module _ (p q : ℕ → Bool) where
+  both-turn : (b : Bool) (x : ℕ) (xs ys : List ℕ) → xs ≡ filter q ys
+      → if (if b (λ _. q x) (λ _. false)) (λ _. x ∷ xs) (λ _. xs) ≡ filter q (if b (λ _. x ∷ ys) (λ _. ys))
+  both-turn true x xs ys e = ap (λ (l : List ℕ). if (q x) (λ _. x ∷ l) (λ _. l)) e
+  both-turn false x xs ys e = e
+
+  pub filter-both : (xs : List ℕ) → filter (λ (x : ℕ). if (p x) (λ _. q x) (λ _. false)) xs ≡ filter q (filter p xs)
+  filter-both [] = refl
+  filter-both (x ∷ xs) = both-turn (p x) x (filter (λ (y : ℕ). if (p y) (λ _. q y) (λ _. false)) xs) (filter p xs) (filter-both xs)
+
+pub filter-all : (xs : List ℕ) → filter (λ (x : ℕ). true) xs ≡ xs
+filter-all [] = refl
+filter-all (x ∷ xs) = ap (λ (l : List ℕ). x ∷ l) (filter-all xs)
+
 pub under-at : (k : ℕ) (xs : List ℕ) (i : ℕ) → Under k xs → i < length xs → getD xs i 0 < k
 under-at k [] i h lt = absurd (not-suc-le-zero lt)
 under-at k (x ∷ xs) zero h lt = h .0

@@ -31,7 +31,7 @@ use Rattle.laws.specs.Sound.{Distinct, Tabled}
 use Rattle.rules.specs.declared.Polarity.{Polarity}
 use Rattle.rules.specs.declared.Polarity.the-variants.{Positive, Negative}
 use Rattle.laws.proofs.Storing.{Rooted, rooted-none, by-place, node-before, node-last, Miss, miss, distinct-none, distinct-more}
-use Rattle.laws.proofs.Keeping.{From, Rising, rising-of, ascending-of}
+use Rattle.laws.proofs.Ascending.{From, Rising, ascending-of, ascending-filter}
 use Rattle.laws.proofs.Moving.{begin-known, distinct-known, bounds-known, visit-moves, steady-fresh}
 use Rattle.laws.proofs.Filtering.{under-front, under-back, filter-under}
 use Rattle.cells.specs.Placed.{Under}
@@ -83,25 +83,6 @@ pub record Fine (names : ℕ) (ns : List Node) : Type 0 where
 -- the numbers of a run's refusals
 abbrev pub RunNumber : ℕ → Type 0
 RunNumber k = (6 ≤ k) × (k ≤ 9)
-
--- numbers that ascend still do when some are left out
-module _ (p : ℕ → Bool) where
-  from-less : (a b : ℕ) (xs : List ℕ) → a ≤ b → From b xs → From a xs
-  from-less a b [] h f = tt
-  from-less a b (x ∷ xs) h f = omega arith
-
-  from-filter : (a : ℕ) (xs : List ℕ) → From a xs → Rising xs → From a (filter p xs)
-  from-filter a [] f r = tt
-  from-filter a (x ∷ xs) f r =
-      by-branch (From a) (p x) (λ _. x ∷ filter p xs) (λ _. filter p xs) f (from-filter a xs (from-less a (suc x) xs (omega arith) (r .0)) (r .1))
-
-  rising-filter : (xs : List ℕ) → Rising xs → Rising (filter p xs)
-  rising-filter [] r = tt
-  rising-filter (x ∷ xs) r =
-      by-branch Rising (p x) (λ _. x ∷ filter p xs) (λ _. filter p xs) (from-filter (suc x) xs (r .0) (r .1), rising-filter xs (r .1)) (rising-filter xs (r .1))
-
-  ascending-filter : (xs : List ℕ) → ascending xs ≡ true → ascending (filter p xs) ≡ true
-  ascending-filter xs h = ascending-of (filter p xs) (rising-filter xs (rising-of xs h))
 
 module _ (names : ℕ) where
   fine-none : Fine names []

@@ -7,9 +7,9 @@ use native.Mathlib.Omega.{arith}
 use mathlib.Core.List.{List, [], _∷_, _++_, append-nil, append-assoc}
 use lib.ListN.{length, length-append, List·getD-append, List·getD-eq-default}
 use lib.Dec.{eqb, ltb}
-use borrow.Author.Tests.{ltb-true, ltb-false, eqb-false, lt-ltb}
+use borrow.Author.Tests.{ltb-true, ltb-false, eqb-false}
 use Rattle.cells.specs.Part.{if, cell}
-use Rattle.rules.specs.Plain.{filter, any, all, contains, ascending, empty}
+use Rattle.rules.specs.Plain.{filter, any, all, contains, empty}
 use Rattle.rules.specs.Ceilings.{mostMembers, mostNames}
 use Rattle.rules.specs.Table.{Field, Attr, fieldKeys}
 use Rattle.rules.specs.Order.{sort}
@@ -26,8 +26,8 @@ use Rattle.rules.specs.declared.Polarity.{Polarity}
 use Rattle.rules.specs.declared.Polarity.the-variants.{Positive, Negative}
 use Rattle.laws.proofs.Storing.{Way, refused, old, new, way, by-place, node-before, node-last}
 use Rattle.laws.proofs.Filtering.{under-most, filter-length}
+use Rattle.laws.proofs.Ascending.{From, Rising, ascending-of, ascending-few, ascending-filter}
 use Rattle.cells.specs.Placed.{Under}
-use Rattle.cells.proofs.Choices.{true-false}
 use mathlib.Core.Option.{Option, none, some}
 
 -- nodes are only added at the end, keys, bits, operations and the bail stay, sound stays sound
@@ -258,41 +258,6 @@ pub keeps-negate : (x : ℕ) → Keeps (negate-output-ty x)
 unfolding negate-output-ty
 keeps-negate x = keeps-negate-by (suc x) x
 
--- numbers that ascend: the first is at least a, and each is greater than the one before it
-abbrev pub From : ℕ → List ℕ → Type 0
-From a [] = Unit {0}
-From a (x ∷ xs) = a ≤ x
-
-abbrev pub Rising : List ℕ → Type 0
-Rising [] = Unit {0}
-Rising (x ∷ xs) = From (suc x) xs × Rising xs
-
-rising-turn : (b : Bool) (x y : ℕ) (ys : List ℕ) → ltb x y ≡ b → (ascending (y ∷ ys) ≡ true → Rising (y ∷ ys)) → if b (λ _. ascending (y ∷ ys)) (λ _. false) ≡ true → Rising (x ∷ y ∷ ys)
-rising-turn true x y ys e f h = (ltb-true x y e, f h)
-rising-turn false x y ys e f h = true-false (sym h)
-
-pub rising-of : (xs : List ℕ) → ascending xs ≡ true → Rising xs
-rising-of [] h = tt
-rising-of (x ∷ []) h = (tt, tt)
-rising-of (x ∷ y ∷ ys) h = rising-turn (ltb x y) x y ys refl (rising-of (y ∷ ys)) h
-
-pub ascending-of : (xs : List ℕ) → Rising xs → ascending xs ≡ true
-ascending-of [] r = refl
-ascending-of (x ∷ []) r = refl
-ascending-of (x ∷ y ∷ ys) r = ap (λ (b : Bool). if b (λ _. ascending (y ∷ ys)) (λ _. false)) (lt-ltb x y (r .0)) ∙ ascending-of (y ∷ ys) (r .1)
-
-rising-few : (a n : ℕ) (xs : List ℕ) → a ≤ n → From a xs → Rising xs → Under n xs → a + length xs ≤ n
-rising-few a n [] h f r u = omega arith
-rising-few a n (x ∷ xs) h f r u = let l = rising-few (suc x) n xs (u .0) (r .0) (r .1) (u .1) in omega arith
-
-from-zero : (xs : List ℕ) → From 0 xs
-from-zero [] = tt
-from-zero (x ∷ xs) = omega arith
-
--- numbers below n that ascend are at most n
-pub ascending-few : (n : ℕ) (xs : List ℕ) → ascending xs ≡ true → Under n xs → length xs ≤ n
-ascending-few n xs h u = let l = rising-few 0 n xs (omega arith) (from-zero xs) (rising-of xs h) u in omega arith
-
 -- merging a field into fields
 keeps-meet : (a b : ℕ) → Keeps (meetTypes a b)
 keeps-meet a b st = keeps-if (is (st .nodes) tyVarKind a || eqb a b) _ _ (keeps-give b) (keeps-store (Intersection (a ∷ b ∷ [])) tt) st
@@ -420,7 +385,12 @@ merged-later sets st x st′ n e =
       orderly fs g =
           let a = ascending-of (fieldKeys fs) (g .rising) in
           let l = ascending-few mostNames (fieldKeys fs) a (g .named) in
-          record { ascend = a; named = g .named; optional = omega (arith, filter-length (optionalInAll sets) (fieldKeys fs)) }
+          record {
+            ascend = a;
+            named = g .named;
+            few = omega (arith, filter-length (optionalInAll sets) (fieldKeys fs));
+            optional = ascending-filter (optionalInAll sets) (fieldKeys fs) a;
+          }
 
 merge-turn : (ms others : List ℕ) (sets : List Attr) (b : Bool) (st : State) (xs : List ℕ) (st′ : State) → (Ordered (st .nodes) → NamedAll sets)
     → if b (λ _. give ms) (λ _. merged sets >>= (λ (x : ℕ). give (others ++ (x ∷ [])))) st ≡ ok xs st′ → Later st st′

@@ -4,7 +4,9 @@ pub mod Storing
 pub mod Indexing
 pub mod Shapes
 pub mod Ordering
+pub mod Sorting
 pub mod Filtering
+pub mod Ascending
 pub mod Containing
 pub mod Keeping
 pub mod Loading

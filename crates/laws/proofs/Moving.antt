@@ -10,8 +10,8 @@ use lib.ListN.{length, set as setAt, length-append, length-set, length-replicate
 use lib.Dec.{ltb}
 use borrow.Author.Tests.{ltb-true}
 use Rattle.cells.specs.Part.{if, cell}
-use Rattle.rules.specs.Plain.{filter, ascending, empty, both}
-use Rattle.rules.specs.Ceilings.{mostNames, mostOperations}
+use Rattle.rules.specs.Plain.{filter, empty, both}
+use Rattle.rules.specs.Ceilings.{mostOperations}
 use Rattle.rules.specs.Table.{Field, Attr, Entry, var, prim, tyvar, list, fn, set, neg, named, inter, union, frozen, fieldTypes, fieldKeys, dynIds, kids, asSet}
 use Rattle.rules.specs.Types.{Node, Primitive, ListOf, Lambda, AttrSet, Union, Intersection, Named, Bottom, Top, asAttr, children, flip, State, ok, Run, _>>=_, give}
 use Rattle.rules.specs.Types.{refuse, is, store, unionKind, intersectionKind}
@@ -29,6 +29,7 @@ use Rattle.laws.proofs.Storing.{Rooted}
 use Rattle.laws.proofs.Keeping.{Later, later-none, later-steady, parted, gave, refused-not, Keeps, Plain, keeps-store, keeps-variable, keeps-flattened}
 use Rattle.laws.proofs.Keeping.{keeps-merge, keeps-factor, keeps-simplify, keeps-negate, keeps-preserving, keeps-firstOf, keeps-interRest}
 use Rattle.laws.proofs.Keeping.{keeps-unionNormalized}
+use Rattle.laws.proofs.Ascending.{orderly-same}
 use Rattle.laws.proofs.Loading.{load-keep}
 use Rattle.laws.proofs.Rooting.{under-absorbed, under-cancelled, under-needed, Roots, Below, AllBelow, Wraps, roots-store, roots-variable, roots-flattened}
 use Rattle.laws.proofs.Rooting.{roots-merge, roots-factor, roots-simplify, roots-negate, roots-preserving, roots-firstOf, roots-interRest}
@@ -385,11 +386,6 @@ module _ (p : Pass) (t : Reader) (b : Tabled p t) (I : Held) (stays : Stays I) (
   goes-dyn pol none st u f = goes-give n t I stays DynBelow none st f tt
   goes-dyn pol (some d) st u f =
       goes-bind n t I stays Below DynBelow (v d pol) _ st (mv d pol st (u .0) f) (λ x s g f h. goes-give n t I stays DynBelow (some x) s f (h, tt))
-
-  orderly-same : (a : Attr) (gs : List Field) {d : Option ℕ} → fieldKeys gs ≡ fieldKeys (a .fields) → Orderly a
-      → Orderly (record { fields = gs; dyn = d; isOpen = a .isOpen; optional = a .optional })
-  orderly-same a gs e o =
-      record { ascend = ap ascending e ∙ o .ascend; named = subst (Under mostNames) (sym e) (o .named); optional = o .optional }
 
   goes-set : (a : Attr) (pol : Polarity) (st : State) → Under n (fieldTypes (a .fields) ++ dynIds (a .dyn)) → Orderly a → Firm n I st
       → Goes n t I Below (fieldsRule v pol (a .fields) >>=

@@ -22,7 +22,8 @@ pub record Distinct (ns : List Node) : Type 0 where
 pub record Orderly (a : Attr) : Type 0 where
   pub ascend : ascending (fieldKeys (a .fields)) ≡ true
   pub named : Under mostNames (fieldKeys (a .fields))
-  pub optional : length (a .optional) ≤ mostNames
+  pub few : length (a .optional) ≤ mostNames
+  pub optional : ascending (a .optional) ≡ true
 
 abbrev pub OrderlySet : Option Attr → Type 0
 OrderlySet none = Unit {0}

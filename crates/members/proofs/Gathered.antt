@@ -404,10 +404,10 @@ module _ {w : List ℕ} {k x : ℕ} {c : Bool} (a : Is w k x c) where
 
 -- unions and intersections are lists of their members
 pub wraps-union : Wraps 5 Union
-wraps-union = record { is = λ xs b. record { row = refl; cells = omega arith; members = refl; below = b } }
+wraps-union = record { is = λ xs b. record { row = refl; cells = omega arith; members = refl; plain = refl; below = b } }
 
 pub wraps-intersection : Wraps 6 Intersection
-wraps-intersection = record { is = λ xs b. record { row = refl; cells = omega arith; members = refl; below = b } }
+wraps-intersection = record { is = λ xs b. record { row = refl; cells = omega arith; members = refl; plain = refl; below = b } }
 
 -- the ways of `grow`
 pub grow-nothing : {out : List ℕ} {k : ℕ} {p : AtMostOne} {q : Pass} → p ≡ Nothing q → Grows out k p out (OnG k q)

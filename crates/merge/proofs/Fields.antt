@@ -15,6 +15,7 @@ use Rattle.rules.specs.Plain.{ascending}
 use Rattle.rules.specs.Table.{Field, fieldKeys}
 use Rattle.rules.specs.Types.{State, Out, ok, no, bind, give}
 use Rattle.rules.specs.Members.{meetTypes, mergeField, mergeFields}
+use Rattle.laws.proofs.Ascending.{From, Rising}
 use Rattle.merge.specs.declared.Next.{Next}
 use Rattle.merge.specs.declared.Next.the-variants.{Old, New, Both}
 use Rattle.merge.specs.Merges.{Rise, fieldAt, Comes, oldTaken, newTaken, nextField, nextKey}
@@ -27,6 +28,15 @@ false-true e = let z : _≡_ {A = ℕ} 0 1 = cc in absurd (omega arith)
 pub rise-length : (a b : ℕ) (fs : List Field) → Rise a b fs → a + length fs ≤ b
 rise-length a b [] h = omega arith
 rise-length a b (f ∷ fs) h = let l = h .0 in omega (arith, rise-length (suc (f .key)) b fs (h .1))
+
+-- the keys as the laws have them
+pub rise-rising : (a b : ℕ) (fs : List Field) → Rise a b fs → From a (fieldKeys fs) × Rising (fieldKeys fs)
+rise-rising a b [] h = (tt, tt)
+rise-rising a b (f ∷ fs) h = (h .0, rise-rising (suc (f .key)) b fs (h .1))
+
+pub rise-under : (a b : ℕ) (fs : List Field) → Rise a b fs → Under b (fieldKeys fs)
+rise-under a b [] h = tt
+rise-under a b (f ∷ fs) h = (omega (arith, rise-length (suc (f .key)) b fs (h .1)), rise-under (suc (f .key)) b fs (h .1))
 
 pub rise-snoc : (a b : ℕ) (fs : List Field) (f : Field) → Rise a b fs → b ≤ f .key → Rise a (suc (f .key)) (fs ++ (f ∷ []))
 rise-snoc a b [] f h le = (omega arith, omega arith)

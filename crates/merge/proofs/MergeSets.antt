@@ -203,6 +203,14 @@ set-stays {st} {st′} {x = x} more on on′ e h =
       keys = h .keys;
     }
 
+-- the area that is not that of the fields is free
+pub other-free : {held : List ℕ} {h a b : ℕ} → OtherArea h a b → Roomy held h → (a ≡ h) ⊎ (a ≡ h + areaLength) → Free held a b
+other-free other roomy which =
+    record {
+      room = ⊎-elim (λ z. omega (arith, roomy .room)) (λ z. omega (arith, roomy .room)) (other .is (roomy .small) which);
+      apart = other .apart (roomy .small) which;
+    }
+
 -- `merge_one`
 module _ {w : List ℕ} {q : Pass} {g : Merging} {x p : ℕ} {w1 : List ℕ} {first : Merged} (place : SetPlace w x p) (call1 : MergesDyn w q g p w1 first) where
   dyn-of : {held : List ℕ} {st : State} {fs : List Field} {d : Option ℕ} {t : Attr} → Stands st w q → Got held g fs d (q .nodes) → SetNode st q x t
@@ -234,13 +242,6 @@ module _ {w : List ℕ} {q : Pass} {g : Merging} {x p : ℕ} {w1 : List ℕ} {fi
       which : (g1 .area ≡ h) ⊎ (g1 .area ≡ h + areaLength)
       which = ⊎-elim (λ z. inl (mid .area ∙ z)) (λ z. inr (mid .area ∙ z)) area
 
-      free : Free held (g1 .area) b
-      free =
-          record {
-            room = ⊎-elim (λ z. omega (arith, roomy .room)) (λ z. omega (arith, roomy .room)) (other .is (roomy .small) which);
-            apart = other .apart (roomy .small) which;
-          }
-
       abbrev rest : Then → Option ℕ → State → Out ℕ
       rest then d′ z = bind (mergeFields fs (t .fields) z) (λ fs′. mergeAttrs fs′ d′ left then)
 
@@ -264,7 +265,7 @@ module _ {w : List ℕ} {q : Pass} {g : Merging} {x p : ℕ} {w1 : List ℕ} {fi
           ap (λ (o : Out (Option ℕ)). bind o (rest then)) (mid .is) ∙ ap (λ (o : Out (List Field)). bind o (λ fs′. mergeAttrs fs′ (mid .dyn) left then)) a
 
       one-answers : AnswersMerged (λ then. mergeAttrs fs d (t ∷ left) then st) left st w′ held′ h m
-      one-answers = one-by m (call2 .is (mid .stands) (mid .got) (set-stays (mid .more) on (mid .stands) (mid .nodes) node) free)
+      one-answers = one-by m (call2 .is (mid .stands) (mid .got) (set-stays (mid .more) on (mid .stands) (mid .nodes) node) (other-free other roomy which))
 
     pub one-merged : MergesOne w held h q g x w′ held′ m
     one-merged =

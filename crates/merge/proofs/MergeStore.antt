@@ -1,34 +1,35 @@
 -- The merged set: what holds of all sets, its row, and the node that stands for them. Assumes nothing.
 use mathlib.Core.Path.{_≡_, refl, sym, ap, ap₂, _∙_, subst}
-use mathlib.Core.Bool.{Bool, true, false, not, _||_}
+use mathlib.Core.Bool.{Bool, true, false, not}
 use Prim.Native.Nat.{ℕ, zero, suc, _+_, _*_, _≤_, _<_}
 use native.Mathlib.Omega.{arith}
 use native.Mathlib.Nat.{not-suc-le-zero}
-use native.Mathlib.Numerals.{add-one}
-use mathlib.Core.List.{List, [], _∷_, _++_, append-nil}
-use lib.ListN.{length, getD, take, drop, set, length-set, length-append, length-map, drop-of-length-le, List·getD-map, List·getD-append}
-use lib.Seq.{getD-set-same, getD-set-other, take-all, length-take-le, append-snoc}
+use mathlib.Core.List.{List, [], _∷_, _++_}
+use lib.ListN.{length, getD, drop, set, length-set, length-append, length-map, drop-of-length-le, List·getD-append}
+use lib.Seq.{getD-set-same, getD-set-other, append-snoc}
 use lib.Dec.{eqb}
-use borrow.Author.Tests.{eqb-true, eqb-false, not-true, not-false}
+use borrow.Author.Tests.{eqb-true, eqb-false, eq-eqb, ne-eqb}
 use Rattle.cells.specs.Part.{cell, part, if}
 use Rattle.cells.specs.Sum.{Sum}
 use Rattle.cells.proofs.Holding.{holds-none, holds-place, holds-cons}
 use Rattle.rules.specs.Ceilings.{mostMembers, mostNames}
-use Rattle.rules.specs.Plain.{all, filter, contains, empty}
+use Rattle.rules.specs.Plain.{all, filter, empty}
 use Rattle.rules.specs.Table.{Field, Attr, fieldKeys, fieldTypes, dynIds}
 use Rattle.rules.specs.Types.{State, Out, bind, give, TyVar, Primitive, ListOf, Lambda, AttrSet, Union, Intersection, Named, Neg, Bottom, Top, fieldWords, dynWords, kindOf, nodeAt, asAttr, store}
 use Rattle.rules.specs.Types as rules
 use Rattle.rules.specs.Members.{mergeAttrs, optionalInAll, openIfAll, attrOf, attrsOf, merge-attrset-intersection}
+use Rattle.laws.specs.Sound.{OrderlySet}
+use Rattle.laws.proofs.Ascending.{ascending-of, ascending-filter}
 use Rattle.laws.proofs.Rows.{field-words-length, dyn-words-length, few-dyns}
 use Rattle.laws.proofs.Storing.{store-keeps}
 use Rattle.lang_ty.specs.declared.arena.Pass.{Pass}
 use Rattle.lang_ty.specs.declared.arena.Given.{Given}
 use Rattle.lang_ty.specs.Nodes.{highest, Arena, Stands, Interned, Written, Answers as Stores}
 use Rattle.lang_ty.specs.Nodes as nodes
-use Rattle.lang_ty.specs.Sets.{SetAt, Open, HasField, HasOptional}
+use Rattle.lang_ty.specs.Sets.{Open}
 use Rattle.lang_ty.specs.Shapes.{SetPlace}
 use Rattle.lang_ty.proofs.Words.{high}
-use Rattle.lang_ty.proofs.Rows.{stored-row, written-none, written-more, written-list, written-both, written-two, stands-below}
+use Rattle.lang_ty.proofs.Rows.{stored-row, written-more, written-list, written-both, written-two, stands-below}
 use Rattle.members.specs.declared.lists.Members.{Members}
 use Rattle.members.specs.declared.lists.Flow.{Flow}
 use Rattle.members.specs.declared.lists.Flow.the-variants.{On as OnF}
@@ -37,85 +38,50 @@ use Rattle.merge.specs.declared.Merging.{Merging}
 use Rattle.merge.specs.declared.Merged.{Merged}
 use Rattle.merge.specs.declared.Merged.the-variants.{On, Refused}
 use Rattle.members.specs.Lists.{Few, Taken, Makes, ofKind, sift, Refuses, WithLast, AnswersFlow, Answers, firstOf}
-use Rattle.merge.specs.declared.SetTest.{SetTest}
-use Rattle.merge.specs.declared.SetTest.the-variants.{Allows as AllowsT, Open as OpenT}
-use Rattle.merge.specs.Merges.{MergesSets, HeldKey, Got, Then, Arrived, AnswersMerged, AllSets, MergesAll, allowed, opened, setTest, Passes, AllPass, OpenIfAll}
-use Rattle.merge.specs.Merges.{frontWords, backWords, WritesDyn, WritesFields, WritesFlags, PutsIf, optionalKeys, WritesOptional, mergedNode, StoresMerged}
+use Rattle.merge.specs.Merges.{Roomy, MergesSets, Rise, Got, Free, OtherArea, Then, Arrived, AnswersMerged, AllSets, MergesAll, OpenIfAll, ListsKeys, KeyList, SievesAll}
+use Rattle.merge.specs.Merges.{frontWords, backWords, WritesDyn, WritesFields, WritesFlags, optionalKeys, WritesOptional, mergedNode, StoresMerged}
 use Rattle.merge.specs.Merges.{MergedLast}
-use Rattle.laws.proofs.Filtering.{filter-take, filter-length, under-at, under-both, under-most}
-use Rattle.members.proofs.Gathered.{few-at, few-below}
-use Rattle.merge.proofs.Fields.{rise-length}
+use Rattle.laws.proofs.Filtering.{filter-length, under-at, under-both, under-most}
+use Rattle.merge.proofs.Fields.{rise-length, rise-rising, rise-under}
 use Rattle.merge.proofs.MergeFields.{holds-alike}
-use Rattle.merge.proofs.MergeSets.{setAt, set-of, attrs-drop}
-use Rattle.cells.specs.Placed.{Holds, Under}
+use Rattle.merge.proofs.MergeSets.{other-free, attrs-drop}
+use Rattle.merge.proofs.Sieving.{set-at}
+use Rattle.cells.specs.Placed.{Under}
 use mathlib.Core.Option.{Option, none, some}
 
--- a test of all sets, at member i; and its answer for the set at a
-pub record Testing (f : Attr → Bool) (w ms : List ℕ) (n i : ℕ) : Type 0 where
+-- `open_if_all` at member i
+pub record Opening (w ms : List ℕ) (n i : ℕ) : Type 0 where
   pub few : i ≤ n
-  pub is : {q : Pass} {ns : List rules.Node} {xs : List ℕ} → Arena w q ns → Taken (firstOf n ms) xs (length ns) → AllSets ns xs → all f (attrsOf ns (drop i xs)) ≡ all f (attrsOf ns xs)
+  pub is : {q : Pass} {ns : List rules.Node} {xs : List ℕ} → Arena w q ns → Taken (firstOf n ms) xs (length ns) → AllSets ns xs → openIfAll (attrsOf ns (drop i xs)) ≡ openIfAll (attrsOf ns xs)
 
-module _ {f : Attr → Bool} {w ms : List ℕ} {n : ℕ} where
-  pub testing-start : Testing f w ms n 0
-  testing-start = record { few = omega arith; is = λ h m a. refl }
+-- the answer where the first set is open or not
+abbrev openBy : Bool → List Attr → ℕ
+openBy b ts = if (if b (λ _. all (λ (a : Attr). eqb (a .isOpen) 1) ts) (λ _. false)) (λ _. 1) (λ _. 0)
 
-  module _ {i y p : ℕ} {b : Bool} (c : Testing f w ms n i) (lt : i < n) (e : y ≡ cell ms i) (place : SetPlace w y p) (t : Passes f w p b) where
-    tested : {q : Pass} {ns : List rules.Node} {xs : List ℕ} → Arena w q ns → Taken (firstOf n ms) xs (length ns) → AllSets ns xs
-        → if b (λ _. all f (attrsOf ns (drop (i + 1) xs))) (λ _. false) ≡ all f (attrsOf ns xs)
-    tested {ns = ns} {xs = xs} h m a =
-        let l : i < length xs = omega (arith, m .list .count) in
-        let at : SetAt w p (setAt ns xs i) =
-        place .is h (few-below m e lt) (ap (nodeAt ns) (few-at (m .list) e lt) ∙ set-of (nodeAt ns (getD xs i 0)) (a .is i l)) in
-        ap (λ (v : Bool). if v (λ _. all f (attrsOf ns (drop (i + 1) xs))) (λ _. false)) (t .is at)
-        ∙ sym (ap (all f) (attrs-drop ns xs i a l))
+module _ {w ms : List ℕ} {n : ℕ} where
+  pub opening-start : Opening w ms n 0
+  opening-start = record { few = omega arith; is = λ h m a. refl }
+
+  module _ {i y p o : ℕ} (c : Opening w ms n i) (lt : i < n) (e : y ≡ cell ms i) (place : SetPlace w y p) (told : Open w p o) where
+    opened : {q : Pass} {ns : List rules.Node} {xs : List ℕ} (b : Bool) → eqb o 1 ≡ b → Arena w q ns → Taken (firstOf n ms) xs (length ns) → AllSets ns xs
+        → openBy b (attrsOf ns (drop (i + 1) xs)) ≡ openIfAll (attrsOf ns xs)
+    opened {ns = ns} {xs = xs} b z h m a =
+        ap (λ (v : Bool). openBy v (attrsOf ns (drop (i + 1) xs))) (sym z ∙ ap (λ (v : ℕ). eqb v 1) (told .is (set-at h a place m e lt)))
+        ∙ sym (ap openIfAll (attrs-drop ns xs i a (omega (arith, m .list .count))))
         ∙ c .is h m a
 
-    pub testing-more : not b ≡ false → Testing f w ms n (i + 1)
-    testing-more z =
-        record {
-          few = omega arith;
-          is = λ {q} {ns} {xs} h m a. ap (λ (v : Bool). if v (λ _. all f (attrsOf ns (drop (i + 1) xs))) (λ _. false)) (sym (not-false b z)) ∙ tested h m a;
-        }
+    pub opening-more : o ≡ 1 → Opening w ms n (i + 1)
+    opening-more z = record { few = omega arith; is = λ h m a. opened true (eq-eqb o 1 z) h m a }
 
-    pub testing-fails : not b ≡ true → AllPass f w ms n false
-    testing-fails z =
-        record { is = λ {q} {ns} {xs} h m a. ap (λ (v : Bool). if v (λ _. all f (attrsOf ns (drop (i + 1) xs))) (λ _. false)) (sym (not-true b z)) ∙ tested h m a }
+    pub opening-fails : (o ≡ 1 → ⊥) → OpenIfAll w ms n 0
+    opening-fails z = record { is = λ h m a. opened false (ne-eqb o 1 z) h m a }
 
-  pub testing-done : {i : ℕ} → Testing f w ms n i → n ≤ i → AllPass f w ms n true
-  testing-done {i} c le =
+  pub opening-done : {i : ℕ} → Opening w ms n i → n ≤ i → OpenIfAll w ms n 1
+  opening-done {i} c le =
       record {
         is = λ {q} {ns} {xs} h m a.
-            sym (ap (λ (l : List ℕ). all f (attrsOf ns l)) (drop-of-length-le xs {i = i} (omega (arith, m .list .count)))) ∙ c .is h m a;
+            sym (ap (λ (l : List ℕ). openIfAll (attrsOf ns l)) (drop-of-length-le xs {i = i} (omega (arith, m .list .count)))) ∙ c .is h m a;
       }
-
--- `allows` and `passes`
-module _ {w : List ℕ} {a key : ℕ} {c : Bool} (has : HasField w a key c) where
-  pub allows-lacks : not c ≡ true → Passes (allowed key) w a true
-  allows-lacks e = record { is = λ {t} at. sym (ap (λ (v : Bool). not v || contains (t .optional) key) (sym (has .is at) ∙ not-true c e)) }
-
-  pub allows-has : {r : Bool} → not c ≡ false → HasOptional w a key r → Passes (allowed key) w a r
-  allows-has e o = record { is = λ {t} at. o .is at ∙ sym (ap (λ (v : Bool). not v || contains (t .optional) key) (sym (has .is at) ∙ not-false c e)) }
-
-module _ {t : SetTest} {w : List ℕ} {a : ℕ} {r : Bool} where
-  passes-by : {u : SetTest} → t ≡ u → Passes (setTest u) w a r → Passes (setTest t) w a r
-  passes-by e h = subst (λ (v : SetTest). Passes (setTest v) w a r) (sym e) h
-
-  pub passes-allows : {key : ℕ} → t ≡ AllowsT key → Passes (allowed key) w a r → Passes (setTest t) w a r
-  passes-allows e h = passes-by e h
-
-  pub passes-open : {o : ℕ} → t ≡ OpenT → Open w a o → r ≡ eqb o 1 → Passes (setTest t) w a r
-  passes-open e h z = passes-by e (record { is = λ at. z ∙ ap (λ (v : ℕ). eqb v 1) (h .is at) })
-
--- `open_if_all`
-module _ {w ms : List ℕ} {n : ℕ} {b : Bool} (c : AllPass opened w ms n b) where
-  open-by : {d : Bool} → b ≡ d → OpenIfAll w ms n (if d (λ _. 1) (λ _. 0))
-  open-by e = record { is = λ h m a. ap (λ (v : Bool). if v (λ _. 1) (λ _. 0)) (sym e ∙ c .is h m a) }
-
-  pub open-all : b ≡ true → OpenIfAll w ms n 1
-  open-all e = open-by e
-
-  pub open-not : b ≡ false → OpenIfAll w ms n 0
-  open-not e = open-by e
 
 -- the words of a dyn
 words-none : (d : Option ℕ) → length (dynIds d) ≡ 0 → dynWords d ≡ 0 ∷ []
@@ -189,24 +155,6 @@ module _ {w w1 w2 w3 w′ held : List ℕ} {t p f n d r : ℕ} {g : Merging} (tw
             last .size got (omega arith) ∙ omega (arith, front-length fs dyn, dyn-words-length dyn);
       }
 
--- `put_if`
-puts-by-none : {w : List ℕ} {o : ℕ} (k x : ℕ) (b : Bool) → not b ≡ true → PutsIf w o k x b w k
-puts-by-none k x true e = let z : _≡_ {A = ℕ} 0 1 = cc in absurd (omega arith)
-puts-by-none k x false e =
-    record { is = λ {w₀} {xs} h f. written-list (sym (append-nil xs)) h; size = λ xs f lt. f ∙ ap length (sym (append-nil xs)) }
-
-puts-by-one : {w w′ : List ℕ} {o p r : ℕ} (k x : ℕ) (b : Bool) → not b ≡ false → p ≡ o + k → w′ ≡ set w p x → Sum k 1 r → PutsIf w o k x b w′ r
-puts-by-one k x true e f g sum =
-    record { is = λ {w₀} {xs} h l. written-more x h (omega arith) g; size = λ xs l lt. sum .is (omega arith) ∙ omega (arith, length-append xs (x ∷ [])) }
-puts-by-one k x false e f g sum = let z : _≡_ {A = ℕ} 0 1 = cc in absurd (omega arith)
-
-module _ {w : List ℕ} {o k x : ℕ} {b : Bool} where
-  pub puts-none : not b ≡ true → PutsIf w o k x b w k
-  puts-none e = puts-by-none k x b e
-
-  pub puts-one : {w′ : List ℕ} {p r : ℕ} → not b ≡ false → p ≡ o + k → w′ ≡ set w p x → Sum k 1 r → PutsIf w o k x b w′ r
-  puts-one e f g sum = puts-by-one k x b e f g sum
-
 -- the nodes stand in a slice that is alike below the top
 arena-alike : {w w′ : List ℕ} {q : Pass} {ns : List rules.Node} → Arena w q ns → length w′ ≡ length w → ((k : ℕ) → k < cell w (q .nodes) → cell w′ k ≡ cell w k) → Arena w′ q ns
 arena-alike {w} {w′} {q} {ns} h e f =
@@ -215,67 +163,37 @@ arena-alike {w} {w′} {q} {ns} h e f =
     (record { arena = h; cells = refl; ops = refl; sorted = refl; bailed = refl })
     (record { same-length = e; below = f; row = λ z. holds-none w′ (cell w (q .nodes)) }) .arena
 
--- `write_optional` at field i
-pub record Chosen (ts : List Attr) (fs : List Field) (o : ℕ) (w₀ w : List ℕ) (k i : ℕ) : Type 0 where
-  pub written : Written o w₀ w (filter (optionalInAll ts) (take i (fieldKeys fs)))
-  pub count : k ≡ length (filter (optionalInAll ts) (take i (fieldKeys fs)))
-
-pub record Choosing (w₀ : List ℕ) (o : ℕ) (held ms : List ℕ) (c a n : ℕ) (w : List ℕ) (k i : ℕ) : Type 0 where
-  pub few : i ≤ n
-  pub words : length w ≡ length w₀
-  pub is : {q : Pass} {ns : List rules.Node} {xs : List ℕ} (fs : List Field) → Arena w₀ q ns → Taken (firstOf c ms) xs (length ns) → AllSets ns xs
-      → n ≡ length fs → Holds held a (fieldWords fs) → length fs ≤ mostNames → cell w₀ (q .nodes) ≤ o → Chosen (attrsOf ns xs) fs o w₀ w k i
-
-module _ {w₀ : List ℕ} {o : ℕ} {held ms : List ℕ} {c : ℕ} where
-  pub choosing-start : {a n : ℕ} → Choosing w₀ o held ms c a n w₀ 0 0
-  choosing-start = record { few = omega arith; words = refl; is = λ fs h m sets e l f le. record { written = written-none o w₀; count = refl } }
-
-  pub choosing-more : {w w′ : List ℕ} {a n k k′ i key : ℕ} {b : Bool} → Choosing w₀ o held ms c a n w k i → i < n → HeldKey held a i key
-      → AllPass (allowed key) w ms c b → PutsIf w o k key b w′ k′ → length w′ ≡ length w → Choosing w₀ o held ms c a n w′ k′ (i + 1)
-  choosing-more {w} {w′} {a} {n} {k} {k′} {i} {key} {b} inv lt hk opt put long =
-      record {
+-- `write_optional`
+module _ {w w′ held held1 held2 : List ℕ} {o b k : ℕ} {g : Merging} {m : Members} (lists : ListsKeys held (g .area) (g .fields) b held1)
+    (all : SievesAll w held1 b (g .fields) (m .at) (m .count) held2 k) (copied : Written o w w′ (part held2 b k)) where
+  left : {q : Pass} {ns : List rules.Node} {xs : List ℕ} {fs : List Field} {d : Option ℕ} {n : ℕ} → Arena w q ns → Taken m xs (length ns) → AllSets ns xs
+      → Got held g fs d n → Free held (g .area) b → KeyList held2 b k (optionalKeys (attrsOf ns xs) fs)
+  left {fs = fs} h taken sets got free =
+      let wrote = lists .is fs (got .count) (got .holds) (got-few got) free in
+      let few = got-few got in
+      let long = length-map fs (λ (f : Field). f .key) in
+      all .is h taken sets
+      (record {
+        count = got .count ∙ sym long;
+        holds = wrote .row (omega (arith, free .room));
+        ascend = ascending-of (fieldKeys fs) (rise-rising 0 mostNames fs (got .keys) .1);
         few = omega arith;
-        words = long ∙ inv .words;
-        is = λ {q} {ns} {xs} fs h m sets size held-at few le.
-            let mid = inv .is fs h m sets size held-at few le in
-            let ts = attrsOf ns xs in
-            let keys = fieldKeys fs in
-            let l : i < length fs = omega arith in
-            let long = length-map fs (λ (f : Field). f .key) in
-            let now : Arena w q ns = arena-alike h (mid .written .same-length) (λ j z. mid .written .below j (omega arith)) in
-            let key-is : key ≡ getD keys i 0 = hk .is fs held-at few l ∙ sym (List·getD-map (λ (f : Field). f .key) fs i (record { key = 0; type = 0 })) in
-            let e : filter (optionalInAll ts) (take i keys) ++ if b (λ _. key ∷ []) (λ _. []) ≡ filter (optionalInAll ts) (take (i + 1) keys) =
-            ap₂ (λ (v : Bool) (y : ℕ). filter (optionalInAll ts) (take i keys) ++ if v (λ _. y ∷ []) (λ _. []))
-            (opt .is now m sets ∙ ap (optionalInAll ts) key-is) key-is
-            ∙ sym (ap (λ (j : ℕ). filter (optionalInAll ts) (take j keys)) (add-one i) ∙ filter-take (optionalInAll ts) keys i (omega arith)) in
-            record {
-              written = written-list e (put .is (mid .written) (mid .count));
-              count =
-                  put .size (filter (optionalInAll ts) (take i keys)) (mid .count)
-                  (omega (arith, filter-length (optionalInAll ts) (take i keys), length-take-le i keys (omega arith)))
-                  ∙ ap length e;
-            };
+        room = omega (arith, free .room, wrote .same-length);
+      })
+
+  pub writes-optional : WritesOptional w o held b g m w′ held2 k
+  writes-optional =
+      record {
+        kept = λ c lt. all .kept c lt ∙ lists .kept c lt;
+        is = λ h taken sets got free. let l = left h taken sets got free in written-list (ap (part held2 b) (l .count) ∙ l .holds .is) copied;
+        size = λ h taken sets got free. left h taken sets got free .count;
       }
 
-pub choosing-done : {w₀ : List ℕ} {o : ℕ} {held : List ℕ} {s : Members} {g : Merging} {w : List ℕ} {k i : ℕ}
-    → Choosing w₀ o held (s .at) (s .count) (g .area) (g .fields) w k i → g .fields ≤ i → WritesOptional w₀ o held g s w k
-choosing-done {g = g} {i = i} inv le =
-    let whole : (fs : List Field) → g .fields ≡ length fs → take i (fieldKeys fs) ≡ fieldKeys fs =
-    λ fs e. take-all i (fieldKeys fs) (omega (arith, length-map fs (λ (f : Field). f .key))) in
-    record {
-      is = λ {q} {ns} {xs} {fs} h m sets got low.
-          written-list (ap (filter (optionalInAll (attrsOf ns xs))) (whole fs (got .count)))
-          (inv .is fs h m sets (got .count) (got .holds) (got-few got) low .written);
-      size = λ {q} {ns} {xs} {fs} h m sets got low.
-          inv .is fs h m sets (got .count) (got .holds) (got-few got) low .count
-          ∙ ap (λ (l : List ℕ). length (filter (optionalInAll (attrsOf ns xs)) l)) (whole fs (got .count));
-    }
-
 -- `write_flags`
-module _ (opens : ℕ) {w w2 w3 w4 held : List ℕ} {o o2 k p : ℕ} {g : Merging} {m : Members} (e2 : w2 ≡ set w o opens) (so2 : Sum o 2 o2)
-    (opt : WritesOptional w2 o2 held g m w3 k) (ep : p ≡ o + 1) (e4 : w4 ≡ set w3 p k) where
+module _ (opens : ℕ) {w w2 w3 w4 held held′ : List ℕ} {o o2 b k p : ℕ} {g : Merging} {m : Members} (e2 : w2 ≡ set w o opens) (so2 : Sum o 2 o2)
+    (opt : WritesOptional w2 o2 held b g m w3 held′ k) (ep : p ≡ o + 1) (e4 : w4 ≡ set w3 p k) where
   module _ {q : Pass} {ns : List rules.Node} {xs : List ℕ} {fs : List Field} {d : Option ℕ} {n : ℕ} (h : Arena w q ns) (taken : Taken m xs (length ns))
-      (sets : AllSets ns xs) (got : Got held g fs d n) (low : cell w (q .nodes) ≤ o) (le : o + 2 ≤ 4294967295) where
+      (sets : AllSets ns xs) (got : Got held g fs d n) (free : Free held (g .area) b) (low : cell w (q .nodes) ≤ o) (le : o + 2 ≤ 4294967295) where
     abbrev opts : List ℕ
     opts = optionalKeys (attrsOf ns xs) fs
 
@@ -291,14 +209,11 @@ module _ (opens : ℕ) {w w2 w3 w4 held : List ℕ} {o o2 k p : ℕ} {g : Mergin
     then : Arena w2 q ns
     then = arena-alike h long2 (λ c lt. below2 c (omega arith))
 
-    top-low : cell w2 (q .nodes) ≤ o2
-    top-low = omega (arith, o2-is, below2 (q .nodes) (omega (arith, high h, h .few)))
-
     chose : Written o2 w2 w3 opts
-    chose = opt .is then taken sets got top-low
+    chose = opt .is then taken sets got free
 
     k-is : k ≡ length opts
-    k-is = opt .size then taken sets got top-low
+    k-is = opt .size then taken sets got free
 
     -- below the optional keys only their number comes last
     below4 : (c : ℕ) → c < o2 → (c ≡ p → ⊥) → cell w4 c ≡ cell w2 c
@@ -306,7 +221,7 @@ module _ (opens : ℕ) {w w2 w3 w4 held : List ℕ} {o o2 k p : ℕ} {g : Mergin
 
     flagged : Written o w w4 (backWords opens opts)
     flagged =
-        let b = o2-is in
+        let two = o2-is in
         let l = long2 in
         record {
           same-length = ap length e4 ∙ length-set w3 p k ∙ chose .same-length ∙ long2;
@@ -315,20 +230,36 @@ module _ (opens : ℕ) {w w2 w3 w4 held : List ℕ} {o o2 k p : ℕ} {g : Mergin
               holds-cons (below4 o (omega arith) (λ z. omega arith) ∙ ap (λ (v : List ℕ). cell v o) e2 ∙ getD-set-same w o opens 0 (omega arith))
               (holds-cons
               (ap₂ (λ (v : List ℕ) (i : ℕ). cell v i) e4 (sym (ep ∙ omega arith)) ∙ getD-set-same w3 p k 0 (omega (arith, chose .same-length)) ∙ k-is)
-              (holds-place b
+              (holds-place two
               (holds-alike (chose .row (omega arith)) (λ i lo hi. ap (λ (v : List ℕ). cell v i) e4 ∙ getD-set-other w3 p i k 0 (λ z. omega arith)))));
         }
 
-  pub writes-flags : WritesFlags w o opens held g m w4 k
-  writes-flags = record { is = λ h taken sets got low le. flagged h taken sets got low le; size = λ h taken sets got low le. k-is h taken sets got low le }
+  pub writes-flags : WritesFlags w o opens held b g m w4 held′ k
+  writes-flags =
+      record {
+        kept = opt .kept;
+        is = λ h taken sets got free low le. flagged h taken sets got free low le;
+        size = λ h taken sets got free low le. k-is h taken sets got free low le;
+      }
+
+-- the keys of the merged set are in order
+orderly-merged : (ts : List Attr) {fs : List Field} (d : Option ℕ) → Rise 0 mostNames fs → OrderlySet (asAttr (mergedNode ts fs d))
+orderly-merged ts {fs} d h =
+    let up = ascending-of (fieldKeys fs) (rise-rising 0 mostNames fs h .1) in
+    record {
+      ascend = up;
+      named = rise-under 0 mostNames fs h;
+      few = omega (arith, filter-length (optionalInAll ts) (fieldKeys fs), length-map fs (λ (f : Field). f .key), rise-length 0 mostNames fs h);
+      optional = ascending-filter (optionalInAll ts) (fieldKeys fs) up;
+    }
 
 -- `store_merged`
-module _ {w w1 w2 held w′ : List ℕ} {q : Pass} {g : Merging} {m : Members} {t opens len o k l2 l3 f2 cells : ℕ} {r : Given}
+module _ {w w1 w2 held held′ w′ : List ℕ} {q : Pass} {g : Merging} {m : Members} {t opens len o b k l2 l3 f2 cells : ℕ} {r : Given}
     (top : nodes.Top w q t) (op : OpenIfAll w (m .at) (m .count) opens) (front : WritesFields w t held g w1 len) (so : Sum t len o)
-    (flags : WritesFlags w1 o opens held g m w2 k) (sl2 : Sum len 2 l2) (sl3 : Sum l2 k l3) (sf2 : Sum (g .fields) (g .fields) f2) (sc : Sum f2 k cells)
+    (flags : WritesFlags w1 o opens held b g m w2 held′ k) (sl2 : Sum len 2 l2) (sl3 : Sum l2 k l3) (sf2 : Sum (g .fields) (g .fields) f2) (sc : Sum f2 k cells)
     (int : Interned w2 q l3 cells w′ r) where
   module _ {st : State} {xs : List ℕ} {fs : List Field} {d : Option ℕ} (on : Stands st w q) (taken : Taken m xs (q .nodes)) (sets : AllSets (st .nodes) xs)
-      (got : Got held g fs d (q .nodes)) where
+      (got : Got held g fs d (q .nodes)) (free : Free held (g .area) b) where
     abbrev ts : List Attr
     ts = attrsOf (st .nodes) xs
 
@@ -369,13 +300,13 @@ module _ {w w1 w2 held w′ : List ℕ} {q : Pass} {g : Merging} {m : Members} {
     row : Written t w w2 (frontWords fs d ++ backWords (openIfAll ts) keys)
     row =
         written-both wrote o-is
-        (written-list (ap (λ (v : ℕ). backWords v keys) (op .is (on .arena) known sets)) (flags .is now known sets got top-under o-few))
+        (written-list (ap (λ (v : ℕ). backWords v keys) (op .is (on .arena) known sets)) (flags .is now known sets got free top-under o-few))
 
     stored-merged : Stores (store (mergedNode ts fs d) st) w′ r
     stored-merged =
         let few = len-few in
         let few′ = keys-few in
-        let c = flags .size now known sets got top-under o-few in
+        let c = flags .size now known sets got free top-under o-few in
         let n = front .size got in
         let x = sl2 .is (omega arith) in
         let y = sl3 .is (omega arith) in
@@ -387,13 +318,14 @@ module _ {w w1 w2 held w′ : List ℕ} {q : Pass} {g : Merging} {m : Members} {
         (record {
           cells = sym (sc .is (omega arith) ∙ omega arith);
           few = omega arith;
+          ordered = orderly-merged ts d (got .keys);
           below = under-both (q .nodes) (fieldTypes fs) (dynIds d) (got .types) (got .dyn-below);
           short = omega arith;
         })
         refl
 
-  pub stores-merged : StoresMerged w held q g m w′ r
-  stores-merged = record { is = λ on taken sets got. stored-merged on taken sets got }
+  pub stores-merged : StoresMerged w held b q g m w′ held′ r
+  stores-merged = record { kept = flags .kept; is = λ on taken sets got free. stored-merged on taken sets got free }
 
 -- sets stay as nodes are added
 attrs-stay : (ns more : List rules.Node) (xs : List ℕ) → Under (length ns) xs → attrsOf (ns ++ more) xs ≡ attrsOf ns xs
@@ -402,20 +334,22 @@ attrs-stay ns more (x ∷ xs) u =
     ap₂ (λ (n : rules.Node) (l : List Attr). attrOf (asAttr n) ++ l) (List·getD-append ns more Bottom x (u .0)) (attrs-stay ns more xs (u .1))
 
 -- `merged_last`
-module _ {w held : List ℕ} {d : Merged} {m n : Members} where
-  pub last-refused : {k : ℕ} {r : Listed} → d ≡ Refused k → Refuses k r → MergedLast w held d m n w r
+module _ {w held : List ℕ} {h : ℕ} {d : Merged} {m n : Members} where
+  pub last-refused : {k : ℕ} {r : Listed} → d ≡ Refused k → Refuses k r → MergedLast w held h d m n w held r
   last-refused {k} {r} e f =
       record {
-        is = λ before st h {xs} {ys} a taken sets few lt u.
+        kept = λ c lt. refl;
+        is = λ before st {xs} {ys} a taken sets roomy few lt u.
             let o = bind (before (λ fs d. store (mergedNode (attrsOf (st .nodes) xs) fs d))) (λ x. give (ys ++ (x ∷ []))) in
             subst (λ (x : Flow). AnswersFlow o w (r .members) x) (sym (f .is))
             (ap (λ (v : Out ℕ). bind v (λ x. give (ys ++ (x ∷ []))))
             (subst (λ (v : Merged). AnswersMerged before [] st w held h v) e a (λ fs d. store (mergedNode (attrsOf (st .nodes) xs) fs d))));
       }
 
-  module _ {w′ : List ℕ} {g : Merging} {q : Pass} {v : Given} {r : Listed} (e : d ≡ On g q) (call : StoresMerged w held q g m w′ v) (last : WithLast n v r) where
-    module _ (before : Then → Out ℕ) (st : State) (h : ℕ) {xs ys : List ℕ} (a : AnswersMerged before [] st w held h d) (taken : Taken m xs (length (st .nodes)))
-        (sets : AllSets (st .nodes) xs) (few : Few n ys) (lt : length ys < mostMembers) (u : Under (length (st .nodes)) ys) where
+  module _ {w′ held′ : List ℕ} {g : Merging} {q : Pass} {b : ℕ} {v : Given} {r : Listed} (e : d ≡ On g q) (other : OtherArea h (g .area) b)
+      (call : StoresMerged w held b q g m w′ held′ v) (last : WithLast n v r) where
+    module _ (before : Then → Out ℕ) (st : State) {xs ys : List ℕ} (a : AnswersMerged before [] st w held h d) (taken : Taken m xs (length (st .nodes)))
+        (sets : AllSets (st .nodes) xs) (roomy : Roomy held h) (few : Few n ys) (lt : length ys < mostMembers) (u : Under (length (st .nodes)) ys) where
       abbrev here : Arrived before [] st w held h g q
       here = subst (λ (v : Merged). AnswersMerged before [] st w held h v) e a
 
@@ -443,7 +377,7 @@ module _ {w held : List ℕ} {d : Merged} {m n : Members} where
           subst (λ (l : List Attr). Stores (store (mergedNode l (here .fields) (here .dyn)) (here .after)) w′ v) same-sets
           (call .is (here .stands)
           (record { list = taken .list; below = under-most (length (st .nodes)) (q .nodes) xs (omega (arith, longer, here .stands .arena .count)) (taken .below) })
-          still-sets (here .got))
+          still-sets (here .got) (other-free other roomy (here .area)))
 
       last-answers : Answers (bind (before (λ fs d. store (mergedNode (attrsOf (st .nodes) xs) fs d))) (λ x. give (ys ++ (x ∷ [])))) w′ r
       last-answers =
@@ -454,8 +388,12 @@ module _ {w held : List ℕ} {d : Merged} {m n : Members} where
           under-most (length (st .nodes)) (length (st′ .nodes)) ys
           (omega (arith, longer, ap length (kept .grows .nodes), length-append (here .after .nodes) (kept .grows .more))) u))
 
-    pub last-merged : MergedLast w held d m n w′ r
-    last-merged = record { is = λ before st h a taken sets few lt u. last-answers before st h a taken sets few lt u }
+    pub last-merged : MergedLast w held h d m n w′ held′ r
+    last-merged =
+        record {
+          kept = λ c lt. call .kept c (omega (arith, other .low));
+          is = λ before st a taken sets roomy few lt u. last-answers before st a taken sets roomy few lt u;
+        }
 
 -- the sets among the members
 attr-none : (n : rules.Node) → (kindOf n ≡ 4 → ⊥) → attrOf (asAttr n) ≡ []
@@ -548,12 +486,12 @@ module _ {w : List ℕ} {q : Pass} {m sets : Members} (made : Makes (sift (ofKin
             };
       }
 
-  pub top-merged : {others : Members} {held w1 held1 w′ : List ℕ} {h : ℕ} {d : Merged} {r : Listed} → (sets .count ≡ 0 → ⊥) → Makes (sift (ofKind 4 false)) w m others
-      → MergesAll w held h q sets w1 held1 d → MergedLast w1 held1 d sets others w′ r → MergesSets w held h q m w′ held1 r
+  pub top-merged : {others : Members} {held w1 held1 w′ held′ : List ℕ} {h : ℕ} {d : Merged} {r : Listed} → (sets .count ≡ 0 → ⊥) → Makes (sift (ofKind 4 false)) w m others
+      → MergesAll w held h q sets w1 held1 d → length held1 ≡ length held → MergedLast w1 held1 h d sets others w′ held′ r → MergesSets w held h q m w′ held′ r
   unfolding merge-attrset-intersection
-  top-merged {others} {w′ = w′} {h = h} {r = r} e rest call last =
+  top-merged {others} {w′ = w′} {h = h} {r = r} e rest call long last =
       record {
-        kept = call .kept;
+        kept = λ c lt. last .kept c lt ∙ call .kept c lt;
         is = λ {st} {xs} sound on t roomy.
             let ns = st .nodes in
             let z = sets-of on t in
@@ -564,7 +502,7 @@ module _ {w : List ℕ} {q : Pass} {m sets : Members} (made : Makes (sift (ofKin
             subst (λ (o : Out (List ℕ)). Answers o w′ r)
             (ap (λ (ts : List Attr). bind (mergeAttrs [] none ts (λ fs d. store (mergedNode ts fs d)) st) (λ x. give (othersIn ns xs ++ (x ∷ [])))) (attrs-in ns xs)
             ∙ sym (ap (λ (b : Bool). whole-of (attrsOf ns xs) xs (othersIn ns xs) b st) (ap empty (sym (attrs-in ns xs)) ∙ empty-not ns (setsIn ns xs) a some)))
-            (last .is (λ then. mergeAttrs [] none (attrsOf ns (setsIn ns xs)) then st) st h
+            (last .is (λ then. mergeAttrs [] none (attrsOf ns (setsIn ns xs)) then st) st
             (call .is on (sound .ordered) (subst (λ (n : ℕ). Taken sets (setsIn ns xs) n) (on .arena .count) z) a roomy)
-            z a (y .list) few (y .below));
+            z a (record { room = omega (arith, roomy .room); small = roomy .small }) (y .list) few (y .below));
       }

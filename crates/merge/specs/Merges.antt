@@ -5,20 +5,19 @@ use mathlib.Core.Logic.{_⊎_}
 use Prim.Native.Nat.{ℕ, suc, _+_, _*_, _≤_, _<_}
 use mathlib.Core.List.{List, [], _∷_, _++_}
 use lib.ListN.{length, getD, set}
-use lib.Dec.{eqb}
 use Rattle.cells.specs.Part.{cell, if}
 use Rattle.layout.specs.Layout.{areaLength}
 use Rattle.rules.specs.Ceilings.{mostMembers, mostNames}
-use Rattle.rules.specs.Plain.{all, filter, contains}
+use Rattle.rules.specs.Plain.{filter, contains, ascending}
 use Rattle.rules.specs.Table.{Field, Attr, fieldKeys, fieldTypes, dynIds}
 use Rattle.rules.specs.Types.{State, Out, ok, no, Run, bind, give, AttrSet, fieldWords, dynWords, kindOf, nodeAt, store}
 use Rattle.rules.specs.Types as rules
 use Rattle.rules.specs.Members.{meetTypes, mergeFields, mergeDyn, mergeAttrs, optionalInAll, openIfAll, attrsOf, merge-attrset-intersection}
-use Rattle.laws.specs.Sound.{Sound, Ordered}
+use Rattle.laws.specs.Sound.{Sound, Orderly, Ordered}
 use Rattle.lang_ty.specs.declared.arena.Pass.{Pass}
 use Rattle.lang_ty.specs.declared.arena.Given.{Given}
 use Rattle.lang_ty.specs.Nodes.{highest, Arena, Stands, Written, Answers as Stores}
-use Rattle.lang_ty.specs.Sets.{SetAt}
+use Rattle.lang_ty.specs.Sets.{SetAt, Ahead}
 use Rattle.members.specs.declared.lists.Members.{Members}
 use Rattle.members.specs.declared.lists.Flow.{Flow}
 use Rattle.members.specs.declared.lists.Flow.the-variants.{On as OnF, Refused as RefusedF}
@@ -26,8 +25,7 @@ use Rattle.members.specs.declared.lists.Listed.{Listed}
 use Rattle.merge.specs.declared.Merging.{Merging}
 use Rattle.merge.specs.declared.Merged.{Merged}
 use Rattle.merge.specs.declared.Merged.the-variants.{On, Refused}
-use Rattle.merge.specs.declared.SetTest.{SetTest}
-use Rattle.merge.specs.declared.SetTest.the-variants.{Allows, Open}
+use Rattle.merge.specs.declared.Sieve.{Sieve}
 use Rattle.merge.specs.declared.Next.{Next}
 use Rattle.merge.specs.declared.Next.the-variants.{Old, New, Both}
 use Rattle.members.specs.Lists.{Few, Taken, Answers, firstOf}
@@ -234,24 +232,6 @@ pub record MergesAll (w held : List ℕ) (h : ℕ) (q : Pass) (m : Members) (w�
   pub is : {st : State} {xs : List ℕ} → Stands st w q → Ordered (st .nodes) → Taken m xs (q .nodes) → AllSets (st .nodes) xs → Roomy held h
       → AnswersMerged (λ then. mergeAttrs [] none (attrsOf (st .nodes) xs) then st) [] st w′ held′ h r
 
--- the set t does not require the key
-abbrev pub allowed : ℕ → Attr → Bool
-allowed key t = not (contains (fieldKeys (t .fields)) key) || contains (t .optional) key
-
-abbrev pub opened : Attr → Bool
-opened t = eqb (t .isOpen) 1
-
-abbrev pub setTest : SetTest → Attr → Bool
-setTest (Allows key) = allowed key
-setTest Open = opened
-
--- r is the answer of the test f on the set at a, and on all sets among the members
-pub record Passes (f : Attr → Bool) (w : List ℕ) (a : ℕ) (r : Bool) : Type 0 where
-  pub is : {t : Attr} → SetAt w a t → r ≡ f t
-
-pub record AllPass (f : Attr → Bool) (w ms : List ℕ) (n : ℕ) (r : Bool) : Type 0 where
-  pub is : {q : Pass} {ns : List rules.Node} {xs : List ℕ} → Arena w q ns → Taken (firstOf n ms) xs (length ns) → AllSets ns xs → r ≡ all f (attrsOf ns xs)
-
 pub record OpenIfAll (w ms : List ℕ) (n r : ℕ) : Type 0 where
   pub is : {q : Pass} {ns : List rules.Node} {xs : List ℕ} → Arena w q ns → Taken (firstOf n ms) xs (length ns) → AllSets ns xs → r ≡ openIfAll (attrsOf ns xs)
 
@@ -272,39 +252,80 @@ pub record WritesFields (w : List ℕ) (t : ℕ) (held : List ℕ) (g : Merging)
 pub record PutsIf (w : List ℕ) (o k x : ℕ) (b : Bool) (w′ : List ℕ) (r : ℕ) : Type 0 where
   pub is : {w₀ xs : List ℕ} → Written o w₀ w xs → k ≡ length xs → Written o w₀ w′ (xs ++ if b (λ _. x ∷ []) (λ _. []))
   pub size : (xs : List ℕ) → k ≡ length xs → length xs < mostNames → r ≡ length (xs ++ if b (λ _. x ∷ []) (λ _. []))
+  pub below : (c : ℕ) → c < o → cell w′ c ≡ cell w c
+  pub behind : (c : ℕ) → o + k < c → cell w′ c ≡ cell w c
+
+-- the keys of the n fields held at a stand from b on
+pub record ListsKeys (held : List ℕ) (a n b : ℕ) (held′ : List ℕ) : Type 0 where
+  pub kept : (c : ℕ) → c < b → cell held′ c ≡ cell held c
+  pub is : (fs : List Field) → n ≡ length fs → Holds held a (fieldWords fs) → length fs ≤ mostNames → Free held a b → Written b held held′ (fieldKeys fs)
+
+-- the set t does not require the key
+abbrev pub allowed : Attr → ℕ → Bool
+allowed t key = not (contains (fieldKeys (t .fields)) key) || contains (t .optional) key
+
+-- one key further along a set's fields ks and its optional keys os
+pub record Sieved (w : List ℕ) (s : Sieve) (key : ℕ) (r : Sieve) : Type 0 where
+  pub fields : {ks os : List ℕ} {b : ℕ} → Ahead w 2 (s .fields) ks b → Ahead w 1 (s .optional) os b → b ≤ key → Ahead w 2 (r .fields) ks key
+  pub optional : {ks os : List ℕ} {b : ℕ} → Ahead w 2 (s .fields) ks b → Ahead w 1 (s .optional) os b → b ≤ key → Ahead w 1 (r .optional) os key
+  pub is : {ks os : List ℕ} {b : ℕ} → Ahead w 2 (s .fields) ks b → Ahead w 1 (s .optional) os b → b ≤ key
+      → r .stays ≡ (not (contains ks key) || contains os key)
+
+-- n keys stand from b on: ks, which ascend
+pub record KeyList (held : List ℕ) (b n : ℕ) (ks : List ℕ) : Type 0 where
+  pub count : n ≡ length ks
+  pub holds : Holds held b ks
+  pub ascend : ascending ks ≡ true
+  pub few : length ks ≤ mostNames
+  pub room : b + mostNames ≤ length held
+
+-- of the keys from b on those are left that the set at a allows, and that all sets among the members allow
+pub record SievesKeys (w held : List ℕ) (b n a : ℕ) (held′ : List ℕ) (r : ℕ) : Type 0 where
+  pub kept : (c : ℕ) → c < b → cell held′ c ≡ cell held c
+  pub is : {t : Attr} {ks : List ℕ} → SetAt w a t → Orderly t → KeyList held b n ks → KeyList held′ b r (filter (allowed t) ks)
+
+pub record SievesAll (w held : List ℕ) (b n : ℕ) (ms : List ℕ) (c : ℕ) (held′ : List ℕ) (r : ℕ) : Type 0 where
+  pub kept : (j : ℕ) → j < b → cell held′ j ≡ cell held j
+  pub is : {q : Pass} {ns : List rules.Node} {xs ks : List ℕ} → Arena w q ns → Taken (firstOf c ms) xs (length ns) → AllSets ns xs → KeyList held b n ks
+      → KeyList held′ b r (filter (optionalInAll (attrsOf ns xs)) ks)
 
 -- the keys that are optional in all of the sets
 abbrev pub optionalKeys : List Attr → List Field → List ℕ
 optionalKeys ts fs = filter (optionalInAll ts) (fieldKeys fs)
 
-pub record WritesOptional (w : List ℕ) (o : ℕ) (held : List ℕ) (g : Merging) (m : Members) (w′ : List ℕ) (r : ℕ) : Type 0 where
+-- found in held, where from b on there is room
+pub record WritesOptional (w : List ℕ) (o : ℕ) (held : List ℕ) (b : ℕ) (g : Merging) (m : Members) (w′ held′ : List ℕ) (r : ℕ) : Type 0 where
+  pub kept : (c : ℕ) → c < b → cell held′ c ≡ cell held c
   pub is : {q : Pass} {ns : List rules.Node} {xs : List ℕ} {fs : List Field} {d : Option ℕ} {k : ℕ} → Arena w q ns → Taken m xs (length ns) → AllSets ns xs
-      → Got held g fs d k → cell w (q .nodes) ≤ o → Written o w w′ (optionalKeys (attrsOf ns xs) fs)
+      → Got held g fs d k → Free held (g .area) b → Written o w w′ (optionalKeys (attrsOf ns xs) fs)
   pub size : {q : Pass} {ns : List rules.Node} {xs : List ℕ} {fs : List Field} {d : Option ℕ} {k : ℕ} → Arena w q ns → Taken m xs (length ns) → AllSets ns xs
-      → Got held g fs d k → cell w (q .nodes) ≤ o → r ≡ length (optionalKeys (attrsOf ns xs) fs)
+      → Got held g fs d k → Free held (g .area) b → r ≡ length (optionalKeys (attrsOf ns xs) fs)
 
 -- the words of a set after its dyn
 abbrev pub backWords : ℕ → List ℕ → List ℕ
 backWords flag keys = flag ∷ length keys ∷ keys
 
 -- the flag, and the optional keys with their number; r is that number
-pub record WritesFlags (w : List ℕ) (o flag : ℕ) (held : List ℕ) (g : Merging) (m : Members) (w′ : List ℕ) (r : ℕ) : Type 0 where
+pub record WritesFlags (w : List ℕ) (o flag : ℕ) (held : List ℕ) (b : ℕ) (g : Merging) (m : Members) (w′ held′ : List ℕ) (r : ℕ) : Type 0 where
+  pub kept : (c : ℕ) → c < b → cell held′ c ≡ cell held c
   pub is : {q : Pass} {ns : List rules.Node} {xs : List ℕ} {fs : List Field} {d : Option ℕ} {k : ℕ} → Arena w q ns → Taken m xs (length ns) → AllSets ns xs
-      → Got held g fs d k → cell w (q .nodes) ≤ o → o + 2 ≤ 4294967295 → Written o w w′ (backWords flag (optionalKeys (attrsOf ns xs) fs))
+      → Got held g fs d k → Free held (g .area) b → cell w (q .nodes) ≤ o → o + 2 ≤ 4294967295 → Written o w w′ (backWords flag (optionalKeys (attrsOf ns xs) fs))
   pub size : {q : Pass} {ns : List rules.Node} {xs : List ℕ} {fs : List Field} {d : Option ℕ} {k : ℕ} → Arena w q ns → Taken m xs (length ns) → AllSets ns xs
-      → Got held g fs d k → cell w (q .nodes) ≤ o → o + 2 ≤ 4294967295 → r ≡ length (optionalKeys (attrsOf ns xs) fs)
+      → Got held g fs d k → Free held (g .area) b → cell w (q .nodes) ≤ o → o + 2 ≤ 4294967295 → r ≡ length (optionalKeys (attrsOf ns xs) fs)
 
 -- what the sets ts come to, with these fields and this dyn
 abbrev pub mergedNode : List Attr → List Field → Option ℕ → rules.Node
 mergedNode ts fs d = AttrSet (record { fields = fs; dyn = d; isOpen = openIfAll ts; optional = optionalKeys ts fs })
 
-pub record StoresMerged (w held : List ℕ) (q : Pass) (g : Merging) (m : Members) (w′ : List ℕ) (r : Given) : Type 0 where
+pub record StoresMerged (w held : List ℕ) (b : ℕ) (q : Pass) (g : Merging) (m : Members) (w′ held′ : List ℕ) (r : Given) : Type 0 where
+  pub kept : (c : ℕ) → c < b → cell held′ c ≡ cell held c
   pub is : {st : State} {xs : List ℕ} {fs : List Field} {d : Option ℕ} → Stands st w q → Taken m xs (q .nodes) → AllSets (st .nodes) xs
-      → Got held g fs d (q .nodes) → Stores (store (mergedNode (attrsOf (st .nodes) xs) fs d) st) w′ r
+      → Got held g fs d (q .nodes) → Free held (g .area) b → Stores (store (mergedNode (attrsOf (st .nodes) xs) fs d) st) w′ r
 
 -- the others, and after them the node that the sets ts come to
-pub record MergedLast (w held : List ℕ) (d : Merged) (m n : Members) (w′ : List ℕ) (r : Listed) : Type 0 where
-  pub is : (before : Then → Out ℕ) (st : State) (h : ℕ) {xs ys : List ℕ} → AnswersMerged before [] st w held h d → Taken m xs (length (st .nodes))
-      → AllSets (st .nodes) xs
+pub record MergedLast (w held : List ℕ) (h : ℕ) (d : Merged) (m n : Members) (w′ held′ : List ℕ) (r : Listed) : Type 0 where
+  pub kept : (c : ℕ) → c < h → cell held′ c ≡ cell held c
+  pub is : (before : Then → Out ℕ) (st : State) {xs ys : List ℕ} → AnswersMerged before [] st w held h d → Taken m xs (length (st .nodes))
+      → AllSets (st .nodes) xs → Roomy held h
       → Few n ys → length ys < mostMembers → Under (length (st .nodes)) ys
       → Answers (bind (before (λ fs d. store (mergedNode (attrsOf (st .nodes) xs) fs d))) (λ x. give (ys ++ (x ∷ [])))) w′ r

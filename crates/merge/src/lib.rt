@@ -10,6 +10,7 @@ use lang_ty::arena::Given;
 use lang_ty::arena::OutputTy;
 use lang_ty::arena::Pass;
 use lang_ty::attrset;
+use lang_ty::attrset::Keys;
 use lang_ty::disjoint;
 use layout::WorkSlice;
 use members::lists::Flow;
@@ -22,8 +23,8 @@ ghost use mathlib.Core.Path.{_≡_};
 ghost use Rattle.cells.specs.Part.{part};
 ghost use Rattle.lang_ty.specs.Nodes.{Written};
 ghost use Rattle.merge.specs.Merges.{MergesSets, Meets, PutsField, HeldKey, HeldType, ComesNext, MergesField, oldTaken, newTaken, GoesOn, fieldsAt, MergesFields};
-ghost use Rattle.merge.specs.Merges.{dynAt, MergesDyn, OtherArea, MergesOne, MergesAll, allowed, setTest, Passes, AllPass, OpenIfAll, WritesDyn, WritesFields};
-ghost use Rattle.merge.specs.Merges.{PutsIf, WritesOptional, WritesFlags, StoresMerged, MergedLast};
+ghost use Rattle.merge.specs.Merges.{dynAt, MergesDyn, OtherArea, MergesOne, MergesAll, OpenIfAll, WritesDyn, WritesFields, PutsIf};
+ghost use Rattle.merge.specs.Merges.{ListsKeys, Sieved, SievesKeys, SievesAll, WritesOptional, WritesFlags, StoresMerged, MergedLast};
 
 // What sets come to so far: fields held at a place, and a dyn or none.
 struct Merging {
@@ -297,55 +298,19 @@ fn merge_sets(arena: &mut [u32], held: &mut [u32], h: u32, p: Pass, sets: Member
     Merged::On(g, q)
 }
 
-// Whether the set at a does not require the key.
-fn allows(words: &[u32], a: u32, key: u32) -> bool
-    ensures { λ r. ⌜ Passes (allowed key) (now (words .entry)) a r ⌝ }
-{
-    if !attrset::has_field(words, a, key) {
-        return true;
-    }
-    attrset::has_optional(words, a, key)
-}
-
-// What is asked of a set: that it does not require a key, or that it is open.
-enum SetTest {
-    Allows(u32),
-    Open,
-}
-
-fn passes(words: &[u32], t: SetTest, a: u32) -> bool
-    ensures { λ r. ⌜ Passes (setTest t) (now (words .entry)) a r ⌝ }
-{
-    match t {
-        SetTest::Allows(key) => allows(words, a, key),
-        SetTest::Open => attrset::open(words, a) == 1,
-    }
-}
-
-// Whether each of the sets passes. A key is optional only if every set allows that.
-fn all_pass(arena: &[u32], t: SetTest, s: &[u32], n: u32) -> bool
-    ensures { λ r. ⌜ AllPass (setTest t) (now (arena .entry)) (now (s .entry)) n r ⌝ }
-{
-    let mut i = 0;
-    while i < n {
-        let a = disjoint::set_place(arena, at(s, i));
-        if !passes(arena, t, a) {
-            return false;
-        }
-        i += 1;
-    }
-    true
-}
-
 // 1 if all of the sets are open.
 fn open_if_all(arena: &[u32], s: &[u32], n: u32) -> u32
     ensures { λ r. ⌜ OpenIfAll (now (arena .entry)) (now (s .entry)) n r ⌝ }
 {
-    if all_pass(arena, SetTest::Open, s, n) {
-        1
-    } else {
-        0
+    let mut i = 0;
+    while i < n {
+        let a = disjoint::set_place(arena, at(s, i));
+        if attrset::open(arena, a) != 1 {
+            return 0;
+        }
+        i += 1;
     }
+    1
 }
 
 // The dyn of g written after the d words from t on; how many words there are then.
@@ -382,44 +347,136 @@ fn put_if(words: &mut [u32], o: u32, k: u32, x: u32, kept: bool) -> u32
     add(k, 1)
 }
 
-// The optional keys of a merged set written from o on; how many there are.
-fn write_optional(arena: &mut [u32], o: u32, held: &[u32], g: Merging, sets: Members) -> u32
-    ensures { λ r. ⌜ WritesOptional (now (arena .entry)) o (now (held .entry)) g sets (now (arena .exit)) r ⌝ }
+// The keys of the n fields held at a, listed from b on.
+fn list_keys(held: &mut [u32], a: u32, n: u32, b: u32)
+    ensures { λ _. ⌜ ListsKeys (now (held .entry)) a n b (now (held .exit)) ⌝ }
 {
-    let s = sets.at;
-    let c = sets.count;
-    let a = g.area;
-    let n = g.fields;
-    let mut k = 0;
     let mut i = 0;
     while i < n {
         let key = held_key(held, a, i);
-        let optional = all_pass(arena, SetTest::Allows(key), &s, c);
-        k = put_if(arena, o, k, key, optional);
+        put(held, place(b, i), key);
+        i += 1;
+    }
+}
+
+// A walk along keys that ascend: what is left of a set's fields and of its optional keys, and whether the last key stays.
+struct Sieve {
+    fields: Keys,
+    optional: Keys,
+    stays: bool,
+}
+
+// The walk at the next key, which stays where the set does not require it.
+fn sieved(words: &[u32], s: Sieve, key: u32) -> Sieve
+    ensures { λ r. ⌜ Sieved (now (words .entry)) s key r ⌝ }
+{
+    let before = s.fields;
+    let fields = attrset::keys_from(words, before, 2, key);
+    let left = s.optional;
+    if !attrset::starts(words, fields, key) {
+        return Sieve {
+            fields,
+            optional: left,
+            stays: true,
+        };
+    }
+    let optional = attrset::keys_from(words, left, 1, key);
+    let stays = attrset::starts(words, optional, key);
+    Sieve {
+        fields,
+        optional,
+        stays,
+    }
+}
+
+// Of the n keys listed from b on those stay, in place, that the set at a does not require; how many they are. One walk along the keys, the
+// set's fields and its optional keys.
+fn sieve_keys(words: &[u32], held: &mut [u32], b: u32, n: u32, a: u32) -> u32
+    ensures { λ r. ⌜ SievesKeys (now (words .entry)) (now (held .entry)) b n a (now (held .exit)) r ⌝ }
+{
+    let mut s = Sieve {
+        fields: attrset::field_keys(words, a),
+        optional: attrset::optional_keys(words, a),
+        stays: true,
+    };
+    let mut k = 0;
+    let mut i = 0;
+    while i < n {
+        let key = get(held, place(b, i));
+        s = sieved(words, s, key);
+        k = put_if(held, b, k, key, s.stays);
         i += 1;
     }
     k
 }
 
+// The same for each of c sets: a key is optional only if every set allows that.
+fn sieve_all(arena: &[u32], held: &mut [u32], b: u32, n: u32, s: &[u32], c: u32) -> u32
+    ensures { λ r. ⌜ SievesAll (now (arena .entry)) (now (held .entry)) b n (now (s .entry)) c (now (held .exit)) r ⌝ }
+{
+    let mut k = n;
+    let mut i = 0;
+    while i < c {
+        let a = disjoint::set_place(arena, at(s, i));
+        k = sieve_keys(arena, held, b, k, a);
+        i += 1;
+    }
+    k
+}
+
+// The optional keys of a merged set written from o on; how many there are. They are sieved in the free area at b: while a walk goes along sets in
+// the arena nothing is written there.
+fn write_optional(
+    arena: &mut [u32],
+    o: u32,
+    held: &mut [u32],
+    b: u32,
+    g: Merging,
+    sets: Members,
+) -> u32
+    ensures { λ r. ⌜ WritesOptional (now (arena .entry)) o (now (held .entry)) b g sets (now (arena .exit)) (now (held .exit)) r ⌝ }
+{
+    let s = sets.at;
+    list_keys(held, g.area, g.fields, b);
+    let k = sieve_all(arena, held, b, g.fields, &s, sets.count);
+    arena::copy(arena, o, held, b, k);
+    k
+}
+
 // The open flag and the optional keys of a merged set written from o on; how many keys there are.
-fn write_flags(arena: &mut [u32], o: u32, flag: u32, held: &[u32], g: Merging, sets: Members) -> u32
-    ensures { λ r. ⌜ WritesFlags (now (arena .entry)) o flag (now (held .entry)) g sets (now (arena .exit)) r ⌝ }
+fn write_flags(
+    arena: &mut [u32],
+    o: u32,
+    flag: u32,
+    held: &mut [u32],
+    b: u32,
+    g: Merging,
+    sets: Members,
+) -> u32
+    ensures { λ r. ⌜ WritesFlags (now (arena .entry)) o flag (now (held .entry)) b g sets (now (arena .exit)) (now (held .exit)) r ⌝ }
 {
     set(arena, o, flag);
-    let k = write_optional(arena, add(o, 2), held, g, sets);
+    let k = write_optional(arena, add(o, 2), held, b, g, sets);
     put(arena, place(o, 1), k);
     k
 }
 
-// The merged set, stored.
-fn store_merged(arena: &mut [u32], held: &[u32], q: Pass, g: Merging, sets: Members) -> Given
-    ensures { λ r. ⌜ StoresMerged (now (arena .entry)) (now (held .entry)) q g sets (now (arena .exit)) r ⌝ }
+// The merged set, stored; the area at b is free.
+fn store_merged(
+    arena: &mut [u32],
+    held: &mut [u32],
+    b: u32,
+    q: Pass,
+    g: Merging,
+    sets: Members,
+) -> Given
+    ensures { λ r. ⌜ StoresMerged (now (arena .entry)) (now (held .entry)) b q g sets (now (arena .exit)) (now (held .exit)) r ⌝ }
 {
     let s = sets.at;
     let t = arena::top(arena, q);
     let open = open_if_all(arena, &s, sets.count);
     let len = write_fields(arena, t, held, g);
-    let k = write_flags(arena, add(t, len), open, held, g, sets);
+    let k = write_flags(arena, add(t, len), open, held, b, g, sets);
     arena::intern(
         arena,
         q,
@@ -429,12 +486,20 @@ fn store_merged(arena: &mut [u32], held: &[u32], q: Pass, g: Merging, sets: Memb
 }
 
 // The merged set stored, after the other members.
-fn merged_last(arena: &mut [u32], held: &[u32], d: Merged, sets: Members, others: Members) -> Listed
-    ensures { λ r. ⌜ MergedLast (now (arena .entry)) (now (held .entry)) d sets others (now (arena .exit)) r ⌝ }
+fn merged_last(
+    arena: &mut [u32],
+    held: &mut [u32],
+    h: u32,
+    d: Merged,
+    sets: Members,
+    others: Members,
+) -> Listed
+    ensures { λ r. ⌜ MergedLast (now (arena .entry)) (now (held .entry)) h d sets others (now (arena .exit)) (now (held .exit)) r ⌝ }
 {
     match d {
         Merged::On(g, q) => {
-            let stored = store_merged(arena, held, q, g, sets);
+            let b = other_area(h, g.area);
+            let stored = store_merged(arena, held, b, q, g, sets);
             with_last(others, stored)
         }
         Merged::Refused(k) => refused(k),
@@ -460,5 +525,5 @@ pub fn merge_attrset_intersection(
     }
     let others = of_kind(arena, m, OutputTy::ATTR_SET, false);
     let d = merge_sets(arena, held, h, q, sets);
-    merged_last(arena, held, d, sets, others)
+    merged_last(arena, held, h, d, sets, others)
 }

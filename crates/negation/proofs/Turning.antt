@@ -106,9 +106,9 @@ module _ {k kind : ℕ} (x : ℕ) (xs : List ℕ) (t : Turns k kind) where
   lists-by : {j : ℕ} (b c : Bool) → eqb k 5 ≡ b → eqb k 6 ≡ c → (kind ≡ 8 → ⊥) → Under j xs
       → Lists (if b (λ _. Intersection xs) (λ _. if c (λ _. Union xs) (λ _. Neg x))) kind xs j
   lists-by true c e f n u =
-      record { row = ap (λ (v : ℕ). v ∷ length xs ∷ xs) (sym (t .union (eqb-true k 5 e))); cells = omega arith; members = refl; below = u }
+      record { row = ap (λ (v : ℕ). v ∷ length xs ∷ xs) (sym (t .union (eqb-true k 5 e))); cells = omega arith; members = refl; plain = refl; below = u }
   lists-by false true e f n u =
-      record { row = ap (λ (v : ℕ). v ∷ length xs ∷ xs) (sym (t .intersection (eqb-true k 6 f))); cells = omega arith; members = refl; below = u }
+      record { row = ap (λ (v : ℕ). v ∷ length xs ∷ xs) (sym (t .intersection (eqb-true k 6 f))); cells = omega arith; members = refl; plain = refl; below = u }
   lists-by false false e f n u = absurd (n (t .other (eqb-false k 5 e) (eqb-false k 6 f)))
 
   turned-lists : {j : ℕ} → (kind ≡ 8 → ⊥) → Under j xs → Lists (turnedNode xs x k) kind xs j
@@ -196,7 +196,7 @@ module _ {w held w′ held′ : List ℕ} {h x n k kind : ℕ} {p : Pass} {g : G
             let lt : x < p .nodes = omega (arith, b .known, b .stands .arena .count, c .nodes) in
             subst (λ (m : rules.Node). AnswersCounted (store m st) st w′ q h top held held′ r) (sym turned)
             (answered w held w′ held′ h x st q top (Neg x) b mem g r
-            (a .is {n = Neg x} (unmarked-stands c q (b .stands)) (record { cells = refl; few = omega arith; below = (lt, tt); short = omega arith }) refl) i);
+            (a .is {n = Neg x} (unmarked-stands c q (b .stands)) (record { cells = refl; few = omega arith; below = (lt, tt); ordered = tt; short = omega arith }) refl) i);
       }
 
   pub negation-turns : (kind ≡ 8 → ⊥) → Listed kind held h n w p w′ g → StoresNegation w held h x n w′ held′ r

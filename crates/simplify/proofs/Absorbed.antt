@@ -1,66 +1,23 @@
 -- Whether one set takes up another. Assumes nothing.
-use mathlib.Core.Path.{_≡_, refl, sym, ap, ap₂, _∙_}
-use mathlib.Core.Bool.{Bool, true, false, not, _||_}
-use Prim.Native.Nat.{ℕ, _+_, _≤_, _<_}
+use mathlib.Core.Path.{_≡_, refl, sym, ap, ap₂, _∙_, subst}
+use mathlib.Core.Bool.{Bool, true, false, not}
+use Prim.Native.Nat.{ℕ}
 use native.Mathlib.Omega.{arith}
 use mathlib.Core.List.{List}
-use lib.ListN.{length, getD, drop, length-map}
+use lib.ListN.{length, getD}
 use lib.Dec.{eqb}
 use borrow.Author.Tests.{eqb-true, eqb-false, eq-eqb, ne-eqb, not-true, not-false}
-use Rattle.rules.specs.Plain.{all, contains, both}
-use Rattle.rules.specs.Table.{Field, Attr, attrAt, fieldKeys, dynIds}
+use Rattle.rules.specs.Plain.{all, both}
+use Rattle.rules.specs.Table.{Attr, attrAt, fieldKeys, dynIds}
 use Rattle.rules.specs.Members.{noDynOrSame, subsumes, subsumesNode}
 use Rattle.rules.specs.Types.{Node, TyVar, Primitive, ListOf, Lambda, AttrSet, Union, Intersection, Named, Neg, Bottom, Top, encode, kindOf, nodeAt, asAttr}
+use Rattle.laws.specs.Sound.{Orderly, OrderlySet}
 use Rattle.laws.proofs.Rows.{node-of}
 use Rattle.lang_ty.specs.Nodes.{Is}
 use Rattle.lang_ty.specs.Shapes.{SetPlace}
-use Rattle.lang_ty.specs.Sets.{SetAt, Fields, Key, HasField, HasOptional, Dyns, DynType, Open}
-use Rattle.simplify.specs.Unions.{covers, Covered, FieldsCover, DynCovers, Subsumes}
-use Rattle.laws.proofs.Filtering.{all-here, all-more, all-done}
+use Rattle.lang_ty.specs.Sets.{SetAt, Dyns, DynType, Open, covers, FieldsCover}
+use Rattle.simplify.specs.Unions.{DynCovers, Subsumes}
 use mathlib.Core.Option.{Option, none, some}
-
-pub covered-optional : {w : List ℕ} {a b k : ℕ} {c : Bool} → HasOptional w a k c → c ≡ true → Covered w a b k true
-covered-optional {k = k} o e = record { is = λ {t} {u} s v. ap (λ (x : Bool). x || contains (fieldKeys (u .fields)) k) (sym e ∙ o .is s) }
-
-pub covered-field : {w : List ℕ} {a b k : ℕ} {c r : Bool} → HasOptional w a k c → c ≡ false → HasField w b k r → Covered w a b k r
-covered-field {k = k} o e f = record { is = λ {t} {u} s v. f .is v ∙ ap (λ (x : Bool). x || contains (fieldKeys (u .fields)) k) (sym e ∙ o .is s) }
-
--- `fields_cover` at field i of the set at a
-pub record Covering (w : List ℕ) (a b n i : ℕ) : Type 0 where
-  pub few : i ≤ n
-  pub is : {t u : Attr} → SetAt w a t → SetAt w b u → all (covers t u) (drop i (fieldKeys (t .fields))) ≡ all (covers t u) (fieldKeys (t .fields))
-
-module _ {w : List ℕ} {a b n : ℕ} where
-  pub covering-start : Covering w a b n 0
-  covering-start = record { few = omega arith; is = λ s v. refl }
-
-  module _ {i k : ℕ} {c : Bool} (l : Covering w a b n i) (fields : Fields w a n) (lt : i < n) (key : Key w a i k) (g : Covered w a b k c) where
-    pub covering-lacks : not c ≡ true → FieldsCover w a b false
-    covering-lacks e =
-        record {
-          is = λ {t} {u} s v.
-              let m = fields .is s in
-              all-here (covers t u) (fieldKeys (t .fields)) i (l .is s v) (omega (arith, length-map (t .fields) (λ (f : Field). f .key)))
-              (sym (not-true c e) ∙ g .is s v ∙ ap (covers t u) (key .is s (omega arith)));
-        }
-
-    pub covering-more : not c ≡ false → Covering w a b n (i + 1)
-    covering-more e =
-        record {
-          few = omega arith;
-          is = λ {t} {u} s v.
-              let m = fields .is s in
-              all-more (covers t u) (fieldKeys (t .fields)) i (l .is s v) (omega (arith, length-map (t .fields) (λ (f : Field). f .key)))
-              (sym (not-false c e) ∙ g .is s v ∙ ap (covers t u) (key .is s (omega arith)));
-        }
-
-  pub covering-done : {i : ℕ} → Covering w a b n i → Fields w a n → n ≤ i → FieldsCover w a b true
-  covering-done {i} l fields le =
-      record {
-        is = λ {t} {u} s v.
-            let m = fields .is s in
-            all-done (covers t u) (fieldKeys (t .fields)) i (l .is s v) (omega (arith, length-map (t .fields) (λ (f : Field). f .key)));
-      }
 
 -- two dyns, by how many there are
 same-none : (d e : Option ℕ) → length (dynIds d) ≡ 0 → noDynOrSame d e ≡ true
@@ -121,38 +78,40 @@ module _ {w : List ℕ} {x y : ℕ} {c : Bool} (k : Is w 4 y c) where
       }
 
   module _ {a b : ℕ} (e : not c ≡ false) (px : SetPlace w x a) (py : SetPlace w y b) where
-    sets : {r : Bool} → ((t u : Attr) → SetAt w a t → SetAt w b u → r ≡ subsumes t u) → Subsumes w x y r
+    sets : {r : Bool} → ((t u : Attr) → SetAt w a t → SetAt w b u → Orderly t → Orderly u → r ≡ subsumes t u) → Subsumes w x y r
     sets g =
         record {
           is = λ {q} {ns} {t} h lx ly i.
               let n = nodeAt ns y in
               let z = sym (node-of n 4 (eqb-true (kindOf n) 4 (sym (k .is h ly) ∙ not-false c e))) in
-              g t (attrAt (encode n) 1) (px .is h lx i) (py .is h ly z) ∙ sym (ap (λ (m : Node). subsumesNode t (asAttr m)) z);
+              let o = subst (λ (m : Node). OrderlySet (asAttr m)) i (h .ordered .is x lx) in
+              let p = subst (λ (m : Node). OrderlySet (asAttr m)) z (h .ordered .is y ly) in
+              g t (attrAt (encode n) 1) (px .is h lx i) (py .is h ly z) o p ∙ sym (ap (λ (m : Node). subsumesNode t (asAttr m)) z);
         }
 
     module _ {o : ℕ} (first : Open w a o) where
       pub subsumes-closed : (o ≡ 1 → ⊥) → Subsumes w x y false
       subsumes-closed f =
-          sets (λ t u m v. sym (ap (λ (p : Bool). chain p (eqb (u .isOpen) 1) (noDynOrSame (t .dyn) (u .dyn)) (all (covers t u) (fieldKeys (t .fields))))
+          sets (λ t u m v _ _. sym (ap (λ (p : Bool). chain p (eqb (u .isOpen) 1) (noDynOrSame (t .dyn) (u .dyn)) (all (covers t u) (fieldKeys (t .fields))))
           (ne-eqb (t .isOpen) 1 (λ z. f (first .is m ∙ z)))))
 
       module _ {j : ℕ} (f : o ≡ 1) (second : Open w b j) where
         pub subsumes-shut : (j ≡ 1 → ⊥) → Subsumes w x y false
         subsumes-shut g =
-            sets (λ t u m v. sym (ap₂ (λ (p q : Bool). chain p q (noDynOrSame (t .dyn) (u .dyn)) (all (covers t u) (fieldKeys (t .fields))))
+            sets (λ t u m v _ _. sym (ap₂ (λ (p q : Bool). chain p q (noDynOrSame (t .dyn) (u .dyn)) (all (covers t u) (fieldKeys (t .fields))))
             (eq-eqb (t .isOpen) 1 (sym (first .is m) ∙ f)) (ne-eqb (u .isOpen) 1 (λ z. g (second .is v ∙ z)))))
 
         module _ {d : Bool} (g : j ≡ 1) (dyn : DynCovers w a b d) where
-          opened : {r : Bool} → ((t u : Attr) → SetAt w a t → SetAt w b u → r ≡ both d (λ _. all (covers t u) (fieldKeys (t .fields)))) → Subsumes w x y r
+          opened : {r : Bool} → ((t u : Attr) → SetAt w a t → SetAt w b u → Orderly t → Orderly u → r ≡ both d (λ _. all (covers t u) (fieldKeys (t .fields)))) → Subsumes w x y r
           opened h =
-              sets (λ t u m v.
-              h t u m v
+              sets (λ t u m v x y.
+              h t u m v x y
               ∙ ap (λ (z : Bool). both z (λ _. all (covers t u) (fieldKeys (t .fields)))) (dyn .is m v)
               ∙ sym (ap₂ (λ (p q : Bool). chain p q (noDynOrSame (t .dyn) (u .dyn)) (all (covers t u) (fieldKeys (t .fields))))
               (eq-eqb (t .isOpen) 1 (sym (first .is m) ∙ f)) (eq-eqb (u .isOpen) 1 (sym (second .is v) ∙ g))))
 
           pub subsumes-dyn : not d ≡ true → Subsumes w x y false
-          subsumes-dyn h = opened (λ t u m v. sym (ap (λ (z : Bool). both z (λ _. all (covers t u) (fieldKeys (t .fields)))) (not-true d h)))
+          subsumes-dyn h = opened (λ t u m v _ _. sym (ap (λ (z : Bool). both z (λ _. all (covers t u) (fieldKeys (t .fields)))) (not-true d h)))
 
           pub subsumes-fields : {r : Bool} → not d ≡ false → FieldsCover w a b r → Subsumes w x y r
-          subsumes-fields h i = opened (λ t u m v. i .is m v ∙ sym (ap (λ (z : Bool). both z (λ _. all (covers t u) (fieldKeys (t .fields)))) (not-false d h)))
+          subsumes-fields h i = opened (λ t u m v x y. i .is m v x y ∙ sym (ap (λ (z : Bool). both z (λ _. all (covers t u) (fieldKeys (t .fields)))) (not-false d h)))

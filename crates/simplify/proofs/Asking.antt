@@ -11,10 +11,10 @@ use Rattle.members.specs.Lists.{Asks, Pairs, Beside}
 use Rattle.simplify.specs.declared.pairs.PairTest.{PairTest}
 use Rattle.simplify.specs.declared.pairs.PairTest.the-variants.{Overlap, Disjoint, NegatedBy, Negation, OtherKind}
 use Rattle.simplify.specs.declared.beside.Sieve.{Sieve}
-use Rattle.simplify.specs.declared.beside.Sieve.the-variants.{Needed, Positive, Unpaired, Spared}
+use Rattle.simplify.specs.declared.beside.Sieve.the-variants.{Needed, Positive, Spared}
 use Rattle.simplify.specs.declared.beside.MemberTest.{MemberTest}
 use Rattle.simplify.specs.declared.beside.MemberTest.the-variants.{Concrete, Subsumed, Taken}
-use Rattle.simplify.specs.Asked.{overlap, negatedBy, negates, otherKind, pairTest, redundant, halved, negated, sieve, subsumed, takes, memberTest}
+use Rattle.simplify.specs.Asked.{overlap, negatedBy, negates, otherKind, pairTest, redundant, negated, sieve, subsumed, takes, memberTest}
 
 pub differs-is : {w : List ℕ} {x y k : ℕ} {b r : Bool} → Kind w x k → Is w k y b → r ≡ not b → Pairs otherKind w x y r
 differs-is {y = y} a b e = record { is = λ {q} {ns} h lx ly. e ∙ ap not (b .is h ly ∙ ap (λ (j : ℕ). is ns j y) (a .is h lx)) }
@@ -48,9 +48,6 @@ module _ {t : Sieve} {w ms : List ℕ} {n x : ℕ} {r : Bool} where
   module _ {b : Bool} (z : r ≡ not b) where
     pub sieve-needed : {functor : ℕ} → t ≡ Needed functor → Beside (redundant functor) w ms n x b → Beside (sieve t) w ms n x r
     sieve-needed e h = sieve-by e (record { is = λ a m lt. z ∙ ap not (h .is a m lt) })
-
-    pub sieve-unpaired : t ≡ Unpaired → Beside halved w ms n x b → Beside (sieve t) w ms n x r
-    sieve-unpaired e h = sieve-by e (record { is = λ a m lt. z ∙ ap not (h .is a m lt) })
 
     pub sieve-spared : t ≡ Spared → Beside negated w ms n x b → Beside (sieve t) w ms n x r
     sieve-spared e h = sieve-by e (record { is = λ a m lt. z ∙ ap not (h .is a m lt) })

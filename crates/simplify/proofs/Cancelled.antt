@@ -10,16 +10,16 @@ use borrow.Author.Tests.{eqb-true, eqb-false, eq-eqb, ne-eqb, not-true, not-fals
 use Rattle.cells.specs.Part.{if}
 use Rattle.rules.specs.Plain.{any, filter, contains, both}
 use Rattle.rules.specs.Types.{Node, TyVar, Primitive, ListOf, Lambda, AttrSet, Union, Intersection, Named, Neg, Bottom, Top, encode, kindOf, children, nodeAt, is}
-use Rattle.rules.specs.Members.{innerOf, negatedInners, isPositive, remove-tautological-pairs}
+use Rattle.rules.specs.Members.{innerOf, negatedInners, isPositive, cancelled, remove-tautological-pairs}
 use Rattle.laws.proofs.Rows.{node-of, by-kind}
 use Rattle.lang_ty.specs.declared.arena.Pass.{Pass}
 use Rattle.lang_ty.specs.Nodes.{Arena, Word, Is}
 use Rattle.lang_ty.proofs.Words.{word-of}
 use Rattle.members.specs.declared.lists.Members.{Members}
-use Rattle.members.specs.Lists.{Makes, Asks, Contains, Pairs, Beside, Sifts}
-use Rattle.simplify.specs.Asked.{negates, halved, sieve, AnyPair}
-use Rattle.simplify.specs.declared.beside.Sieve.the-variants.{Unpaired}
-use Rattle.members.proofs.Gathered.{taken-list}
+use Rattle.members.specs.Lists.{Taken, Makes, Tests, Asks, Contains, Pairs, anyOfKind, ofKind, sift, firstOf}
+use Rattle.simplify.specs.Asked.{negates, AnyPair}
+use Rattle.simplify.specs.Unions.{halved, Cancels}
+use Rattle.members.proofs.Gathered.{taken-list, listed, Tried, Sifted}
 use Rattle.cells.specs.Placed.{Under}
 
 -- laws of the rules' lists
@@ -75,6 +75,42 @@ no-inner (Neg a) h = absurd (h refl)
 no-inner Bottom h = refl
 no-inner Top h = refl
 
+-- the Negs alone hold what all members hold
+module _ (ns : List Node) where
+  kept-turn : (x : ℕ) (xs : List ℕ) (b : Bool) → is ns 8 x ≡ b → negatedInners ns (filter (is ns 8) xs) ≡ negatedInners ns xs
+      → negatedInners ns (if b (λ _. x ∷ filter (is ns 8) xs) (λ _. filter (is ns 8) xs)) ≡ innerOf (nodeAt ns x) ++ negatedInners ns xs
+  kept-turn x xs true e h = ap (λ (l : List ℕ). innerOf (nodeAt ns x) ++ l) h
+  kept-turn x xs false e h = h ∙ sym (ap (λ (l : List ℕ). l ++ negatedInners ns xs) (no-inner (nodeAt ns x) (eqb-false (kindOf (nodeAt ns x)) 8 e)))
+
+  pub inners-kept : (xs : List ℕ) → negatedInners ns (filter (is ns 8) xs) ≡ negatedInners ns xs
+  inners-kept [] = refl
+  inners-kept (x ∷ xs) = kept-turn x xs (is ns 8 x) refl (inners-kept xs)
+
+  -- where no member is a Neg, none holds anything
+  none-turn : (x : ℕ) (xs : List ℕ) (b : Bool) → is ns 8 x ≡ b → if b (λ _. true) (λ _. any (is ns 8) xs) ≡ false
+      → (innerOf (nodeAt ns x) ≡ []) × (any (is ns 8) xs ≡ false)
+  none-turn x xs true e f = let z : _≡_ {A = ℕ} 0 1 = cc in absurd (omega arith)
+  none-turn x xs false e f = (no-inner (nodeAt ns x) (eqb-false (kindOf (nodeAt ns x)) 8 e), f)
+
+  pub no-inners : (xs : List ℕ) → any (is ns 8) xs ≡ false → negatedInners ns xs ≡ []
+  no-inners [] f = refl
+  no-inners (x ∷ xs) f = let g = none-turn x xs (is ns 8 x) refl f in ap₂ (λ (l r : List ℕ). l ++ r) (g .0) (no-inners xs (g .1))
+
+  -- and none is cancelled
+  module _ (ps : List ℕ) where
+    uncancelled : (x : ℕ) → innerOf (nodeAt ns x) ≡ [] → cancelled ns ps [] x ≡ false
+    uncancelled x e = ap₂ (λ (a b : Bool). a || b) (neither (isPositive ns x)) (ap (any (contains ps)) e) where
+      neither : (b : Bool) → both b (λ _. false) ≡ false
+      neither true = refl
+      neither false = refl
+
+    all-stay : (xs : List ℕ) → any (is ns 8) xs ≡ false → filter (λ (m : ℕ). not (cancelled ns ps [] m)) xs ≡ xs
+    all-stay [] f = refl
+    all-stay (x ∷ xs) f =
+        let g = none-turn x xs (is ns 8 x) refl f in
+        let rest = filter (λ (m : ℕ). not (cancelled ns ps [] m)) xs in
+        ap (λ (b : Bool). if (not b) (λ _. x ∷ rest) (λ _. rest)) (uncancelled x (g .0)) ∙ ap (λ (l : List ℕ). x ∷ l) (all-stay xs (g .1))
+
 pub once : (b : Bool) → if b (λ _. true) (λ _. false) ≡ b
 once true = refl
 once false = refl
@@ -114,45 +150,72 @@ negates-is {x = x} {v = v} {c = c} a e b g =
 module _ {w : List ℕ} {x : ℕ} {c : Bool} (a : Is w 8 x c) where
   -- of a negation: whether what it holds is a positive member
   module _ {v : ℕ} {d : Bool} (e : c ≡ true) (b : Word w x 1 v) (p : Asks isPositive w v d) where
-    held : {q : Pass} {ns : List Node} (xs : List ℕ) → Arena w q ns → x < length ns → both d (λ _. contains xs v) ≡ halved ns xs x
-    held {q} {ns} xs h lt =
+    held : {q : Pass} {ns : List Node} (xs ys : List ℕ) → Arena w q ns → x < length ns → both d (λ _. contains xs v) ≡ halved ns xs ys x
+    held {q} {ns} xs ys h lt =
         let n = negation a h lt e b in
         let u = subst (λ (k : Node). Under x (children k)) n (h .below x lt) .0 in
         ap (λ (t : Bool). both t (λ _. contains xs v)) (p .is h (omega arith))
         ∙ sym (sift-contains (isPositive ns) v xs)
         ∙ sym (once (contains (filter (isPositive ns) xs) v))
         ∙ sym (ap (λ (k : Node). both (not (eqb (kindOf k) 8 || eqb (kindOf k) 0 || eqb (kindOf k) 9 || eqb (kindOf k) 10))
-        (λ _. contains (negatedInners ns xs) x) || any (contains (filter (isPositive ns) xs)) (innerOf k)) n)
+        (λ _. contains (negatedInners ns ys) x) || any (contains (filter (isPositive ns) xs)) (innerOf k)) n)
 
-    pub cancel-none : {ms : List ℕ} {n : ℕ} → not d ≡ true → Beside halved w ms n x false
-    cancel-none z = record { is = λ {q} {ns} {xs} h t lt. sym (ap (λ (k : Bool). both k (λ _. contains xs v)) (not-true d z)) ∙ held xs h lt }
+    pub cancel-none : {ms gs : List ℕ} {n k : ℕ} → not d ≡ true → Cancels w ms n gs k x false
+    cancel-none z = record { is = λ {q} {ns} {xs} {ys} h t u lt. sym (ap (λ (b : Bool). both b (λ _. contains xs v)) (not-true d z)) ∙ held xs ys h lt }
 
-    pub cancel-held : {ms : List ℕ} {n : ℕ} {r : Bool} → not d ≡ false → Contains ms n v r → Beside halved w ms n x r
+    pub cancel-held : {ms gs : List ℕ} {n k : ℕ} {r : Bool} → not d ≡ false → Contains ms n v r → Cancels w ms n gs k x r
     cancel-held z g =
         record {
-          is = λ {q} {ns} {xs} h t lt.
+          is = λ {q} {ns} {xs} {ys} h t u lt.
               g .is
               ∙ ap (λ (l : List ℕ). contains l v) (taken-list t)
-              ∙ sym (ap (λ (k : Bool). both k (λ _. contains xs v)) (not-false d z))
-              ∙ held xs h lt;
+              ∙ sym (ap (λ (b : Bool). both b (λ _. contains xs v)) (not-false d z))
+              ∙ held xs ys h lt;
         }
 
   -- of another: whether it is positive and its negation a member
   module _ {d : Bool} (e : c ≡ false) (p : Asks isPositive w x d) where
-    alone : {q : Pass} {ns : List Node} (xs : List ℕ) → Arena w q ns → x < length ns → both d (λ _. any (negates ns x) xs) ≡ halved ns xs x
-    alone {q} {ns} xs h lt =
-        ap₂ (λ (t u : Bool). both t (λ _. u)) (p .is h lt) (sym (inners-any ns xs (eqb x)))
-        ∙ sym (or-false (both (isPositive ns x) (λ _. contains (negatedInners ns xs) x)))
-        ∙ sym (ap (λ (l : List ℕ). both (isPositive ns x) (λ _. contains (negatedInners ns xs) x) || any (contains (filter (isPositive ns) xs)) l) (other a h lt e))
+    alone : {q : Pass} {ns : List Node} (xs ys : List ℕ) → Arena w q ns → x < length ns → both d (λ _. any (negates ns x) ys) ≡ halved ns xs ys x
+    alone {q} {ns} xs ys h lt =
+        ap₂ (λ (t u : Bool). both t (λ _. u)) (p .is h lt) (sym (inners-any ns ys (eqb x)))
+        ∙ sym (or-false (both (isPositive ns x) (λ _. contains (negatedInners ns ys) x)))
+        ∙ sym (ap (λ (l : List ℕ). both (isPositive ns x) (λ _. contains (negatedInners ns ys) x) || any (contains (filter (isPositive ns) xs)) l) (other a h lt e))
 
-    pub cancel-not : {ms : List ℕ} {n : ℕ} → not d ≡ true → Beside halved w ms n x false
-    cancel-not z = record { is = λ {q} {ns} {xs} h t lt. sym (ap (λ (k : Bool). both k (λ _. any (negates ns x) xs)) (not-true d z)) ∙ alone xs h lt }
+    pub cancel-not : {ms gs : List ℕ} {n k : ℕ} → not d ≡ true → Cancels w ms n gs k x false
+    cancel-not z = record { is = λ {q} {ns} {xs} {ys} h t u lt. sym (ap (λ (b : Bool). both b (λ _. any (negates ns x) ys)) (not-true d z)) ∙ alone xs ys h lt }
 
-    pub cancel-pair : {ms : List ℕ} {n : ℕ} {r : Bool} → not d ≡ false → AnyPair negates w ms 0 n x r → Beside halved w ms n x r
+    pub cancel-pair : {ms gs : List ℕ} {n k : ℕ} {r : Bool} → not d ≡ false → AnyPair negates w gs 0 k x r → Cancels w ms n gs k x r
     cancel-pair z g =
-        record { is = λ {q} {ns} {xs} h t lt. g .is h t lt ∙ sym (ap (λ (k : Bool). both k (λ _. any (negates ns x) xs)) (not-false d z)) ∙ alone xs h lt }
+        record {
+          is = λ {q} {ns} {xs} {ys} h t u lt.
+              g .is h u lt ∙ sym (ap (λ (b : Bool). both b (λ _. any (negates ns x) ys)) (not-false d z)) ∙ alone xs ys h lt;
+        }
 
--- `remove_tautological_pairs` keeps the others
-pub unpaired-all : {w : List ℕ} {m r : Members} → Sifts (sieve Unpaired) w (m .at) (m .count) m r → Makes remove-tautological-pairs w m r
+-- `remove_tautological_pairs` keeps the others: all where no member is a Neg
+pub unpaired-same : {w : List ℕ} {m : Members} {b : Bool} → Tests (anyOfKind 8) w m b → not b ≡ true → Makes remove-tautological-pairs w m m
 unfolding remove-tautological-pairs
-unpaired-all g = record { is = λ h t. g .is h t t }
+unpaired-same {m = m} {b = b} g e =
+    record {
+      is = λ {q} {ns} {xs} h t.
+          let none = sym (g .is h t) ∙ not-true b e in
+          let ps = filter (isPositive ns) xs in
+          subst (λ (l : List ℕ). Taken m l (length ns))
+          (sym (ap (λ (l : List ℕ). filter (λ (y : ℕ). not (cancelled ns ps l y)) xs) (no-inners ns xs none) ∙ all-stay ns ps xs none))
+          t;
+    }
+
+-- the test of the members, which looks at the Negs alone
+abbrev pub unpaired : List ℕ → List Node → ℕ → Bool
+unpaired xs ns x = not (halved ns xs xs x)
+
+pub unpaired-one : {w ms gs : List ℕ} {n k x : ℕ} {b : Bool} → Makes (sift (ofKind 8 true)) w (firstOf n ms) (firstOf k gs) → Cancels w ms n gs k x b
+    → Tried (listed ms n) unpaired w x (not b)
+unpaired-one {x = x} g one =
+    record {
+      is = λ {q} {ns} xs h t lt.
+          ap not (one .is h t (g .is h t) lt ∙ ap (λ (l : List ℕ). cancelled ns (filter (isPositive ns) xs) l x) (inners-kept ns xs));
+    }
+
+pub unpaired-all : {w : List ℕ} {m r : Members} → Sifted (listed (m .at) (m .count)) unpaired w m r → Makes remove-tautological-pairs w m r
+unfolding remove-tautological-pairs
+unpaired-all g = record { is = λ {q} {ns} {xs} h t. g .is xs h t t }

@@ -11,17 +11,17 @@ use borrow.Author.Tests.{eqb-true, eqb-false, not-true, not-false}
 use Rattle.cells.specs.Part.{cell, if}
 use Rattle.rules.specs.Plain.{any, filter, both}
 use Rattle.rules.specs.Types.{Node, kindOf, children, nodeAt, is}
-use Rattle.rules.specs.Members.{innerOf, negatedInners, isPositive, is-output-subtype-or-equal, are-output-types-disjoint, allSameNonPrimitive, disjointPair}
+use Rattle.rules.specs.Members.{innerOf, isPositive, is-output-subtype-or-equal, are-output-types-disjoint, allSameNonPrimitive, disjointPair}
 use Rattle.rules.specs.Members.{subsumedByNegation, has-type-contradiction}
 use Rattle.lang_ty.specs.declared.arena.Pass.{Pass}
 use Rattle.lang_ty.specs.Nodes.{Arena, Word, Is}
 use Rattle.members.specs.declared.lists.Members.{Members}
-use Rattle.members.specs.Lists.{Taken, Tests, Asks, firstOf, Pairs, Beside, Sifts}
-use Rattle.simplify.specs.Asked.{negatedBy, negated, subsumed, otherKind, sieve, anyMember, AnyPair}
+use Rattle.members.specs.Lists.{Taken, Makes, Tests, Asks, firstOf, Pairs, Beside, Sifts, anyOfKind, ofKind, sift}
+use Rattle.simplify.specs.Asked.{negatedBy, negated, subsumed, otherKind, sieve, memberTest, AnyPair, AnyBeside}
 use Rattle.simplify.specs.declared.beside.Sieve.the-variants.{Positive}
 use Rattle.simplify.specs.declared.beside.MemberTest.the-variants.{Subsumed}
 use Rattle.members.proofs.Gathered.{few-at, few-below, all-not}
-use Rattle.simplify.proofs.Cancelled.{inners-any, no-inner, once}
+use Rattle.simplify.proofs.Cancelled.{inners-any, no-inner, inners-kept, no-inners, once}
 use Rattle.simplify.proofs.Redundant.{any-sift}
 use Rattle.lang_ty.proofs.Words.{neg-at}
 use Rattle.cells.specs.Placed.{Under}
@@ -50,7 +50,7 @@ module _ {w : List ℕ} {x m : ℕ} {b : Bool} (neg : Is w 8 m b) where
 pub negated-any : {w ms : List ℕ} {n x : ℕ} {r : Bool} → AnyPair negatedBy w ms 0 n x r → Beside negated w ms n x r
 negated-any {x = x} c = record { is = λ {q} {ns} {xs} h m l. c .is h m l ∙ sym (inners-any ns xs (is-output-subtype-or-equal ns x)) }
 
--- `is_subsumed` and `any_negated`
+-- `is_subsumed`
 module _ {w ms : List ℕ} {n x : ℕ} {b : Bool} (p : Asks isPositive w x b) where
   pub subsumed-not : not b ≡ true → Beside subsumed w ms n x false
   subsumed-not e = record { is = λ {q} {ns} {xs} h m lt. sym (ap (λ (t : Bool). both t (λ _. negated ns xs x)) (sym (p .is h lt) ∙ not-true b e)) }
@@ -59,8 +59,31 @@ module _ {w ms : List ℕ} {n x : ℕ} {b : Bool} (p : Asks isPositive w x b) wh
   subsumed-so e g =
       record { is = λ {q} {ns} {xs} h m lt. g .is h m lt ∙ sym (ap (λ (t : Bool). both t (λ _. negated ns xs x)) (sym (p .is h lt) ∙ not-false b e)) }
 
-subsumed-all : (ns : List Node) (xs : List ℕ) → any (subsumed ns xs) xs ≡ subsumedByNegation ns xs
-subsumed-all ns xs = sym (any-sift (isPositive ns) (λ (p : ℕ). any (is-output-subtype-or-equal ns p) (negatedInners ns xs)) xs)
+-- `any_subsumed`: where no member is a Neg, and by what the Negs hold
+abbrev subsumedBy : List Node → List ℕ → List ℕ → Bool
+subsumedBy ns negs xs = any (λ (p : ℕ). any (is-output-subtype-or-equal ns p) negs) (filter (isPositive ns) xs)
+
+any-none : (xs : List ℕ) → any (λ (x : ℕ). false) xs ≡ false
+any-none [] = refl
+any-none (x ∷ xs) = any-none xs
+
+module _ {w : List ℕ} {m : Members} where
+  pub subsumed-none : {b : Bool} → Tests (anyOfKind 8) w m b → not b ≡ true → Tests subsumedByNegation w m false
+  subsumed-none {b} g e =
+      record {
+        is = λ {q} {ns} {xs} h t.
+            sym (ap (λ (l : List ℕ). subsumedBy ns l xs) (no-inners ns xs (sym (g .is h t) ∙ not-true b e)) ∙ any-none (filter (isPositive ns) xs));
+      }
+
+  pub subsumed-some : {negs : Members} {r : Bool} → Makes (sift (ofKind 8 true)) w m negs → AnyBeside (memberTest Subsumed) w (m .at) (m .count) (negs .at) (negs .count) r
+      → Tests subsumedByNegation w m r
+  subsumed-some g some =
+      record {
+        is = λ {q} {ns} {xs} h t.
+            some .is h t (g .is h t)
+            ∙ sym (any-sift (isPositive ns) (negated ns (filter (is ns 8) xs)) xs)
+            ∙ ap (λ (l : List ℕ). subsumedBy ns l xs) (inners-kept ns xs);
+      }
 
 -- `all_same_non_primitive`: of none, and by the first
 same-empty : (ns : List Node) (xs : List ℕ) → length xs ≡ 0 → true ≡ allSameNonPrimitive ns xs
@@ -144,14 +167,14 @@ module _ {functor : ℕ} {w ms : List ℕ} {n : ℕ} where
 abbrev verdict : Bool → Bool → Bool → Bool
 verdict a b c = if a (λ _. true) (λ _. both (not b) (λ _. c))
 
-module _ (functor : ℕ) {w : List ℕ} {m : Members} {a : Bool} (taken : Tests (anyMember Subsumed) w m a) where
+module _ (functor : ℕ) {w : List ℕ} {m : Members} {a : Bool} (taken : Tests subsumedByNegation w m a) where
   pub contradicts-taken : a ≡ true → Tests (has-type-contradiction functor) w m true
   unfolding has-type-contradiction
   contradicts-taken e =
       record {
         is = λ {q} {ns} {xs} h t.
             let ps = filter (isPositive ns) xs in
-            ap (λ (v : Bool). verdict v (allSameNonPrimitive ns ps) (disjointPair functor ns ps)) (sym e ∙ taken .is h t ∙ subsumed-all ns xs);
+            ap (λ (v : Bool). verdict v (allSameNonPrimitive ns ps) (disjointPair functor ns ps)) (sym e ∙ taken .is h t);
       }
 
   module _ {p : Members} {b : Bool} (e : a ≡ false) (positives : Sifts (sieve Positive) w (m .at) (m .count) m p) (same : Tests allSameNonPrimitive w p b) where
@@ -161,7 +184,7 @@ module _ (functor : ℕ) {w : List ℕ} {m : Members} {a : Bool} (taken : Tests 
         record {
           is = λ {q} {ns} {xs} h t.
               let ps = filter (isPositive ns) xs in
-              ap₂ (λ (u v : Bool). verdict u v (disjointPair functor ns ps)) (sym e ∙ taken .is h t ∙ subsumed-all ns xs) (sym f ∙ same .is h (positives .is h t t));
+              ap₂ (λ (u v : Bool). verdict u v (disjointPair functor ns ps)) (sym e ∙ taken .is h t) (sym f ∙ same .is h (positives .is h t t));
         }
 
     pub contradicts-pair : {r : Bool} → b ≡ false → Tests (disjointPair functor) w p r → Tests (has-type-contradiction functor) w m r
@@ -171,5 +194,5 @@ module _ (functor : ℕ) {w : List ℕ} {m : Members} {a : Bool} (taken : Tests 
           is = λ {q} {ns} {xs} h t.
               let ps = filter (isPositive ns) xs in
               g .is h (positives .is h t t)
-              ∙ ap₂ (λ (u v : Bool). verdict u v (disjointPair functor ns ps)) (sym e ∙ taken .is h t ∙ subsumed-all ns xs) (sym f ∙ same .is h (positives .is h t t));
+              ∙ ap₂ (λ (u v : Bool). verdict u v (disjointPair functor ns ps)) (sym e ∙ taken .is h t) (sym f ∙ same .is h (positives .is h t t));
         }

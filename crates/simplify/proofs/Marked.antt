@@ -10,6 +10,7 @@ use lib.Seq.{drop-cons, getD-set-same, getD-set-other}
 use lib.Dec.{eqb}
 use borrow.Author.Tests.{eqb-true, eqb-false, eq-eqb, ne-eqb, not-true, not-false}
 use Rattle.cells.specs.Part.{cell, if}
+use Rattle.cells.proofs.Choices.{if-same, if-false}
 use Rattle.rules.specs.Ceilings.{mostMembers}
 use Rattle.rules.specs.Plain.{contains, both}
 use Rattle.rules.specs.Table.{Attr, attrAt}
@@ -20,11 +21,13 @@ use Rattle.lang_ty.specs.declared.arena.Pass.{Pass}
 use Rattle.lang_ty.specs.Nodes.{Arena, Is}
 use Rattle.members.specs.declared.lists.Members.{Members}
 use Rattle.members.specs.Lists.{Taken, Makes, Gathered, only, KeepsIf, firstOf}
+use Rattle.simplify.specs.OwnKeys.{Idle, MarksOwn}
 use Rattle.simplify.specs.Unions.{Subsumes, Marked, MarksIf, Takes, MarksTaken, Leaves}
 use Rattle.laws.proofs.Filtering.{under-both}
 use Rattle.members.proofs.Gathered.{few-at, few-below, gathered-none, gathered-few}
 use Rattle.simplify.proofs.Cancelled.{any-both, once}
 use Rattle.simplify.proofs.Absorbed.{no-attr}
+use Rattle.simplify.proofs.OwnKeys.{idle-none}
 use Rattle.cells.specs.Placed.{Under}
 use mathlib.Core.Option.{Option, none, some}
 
@@ -93,10 +96,10 @@ node-gone : (ns : List Node) (xs ps : List ℕ) (i : ℕ) (a : Option Attr) → 
 node-gone ns xs ps i none e = refl
 node-gone ns xs ps i (some a) e = ap (λ (b : Bool). if b (λ _. ps) (λ _. takenBy ns i a ps 0 xs)) e
 
-pub taken-gone : {w ms gone : List ℕ} {n i y : ℕ} → y ≡ cell gone i → (y ≡ 0 → ⊥) → MarksTaken w ms n i gone gone
+pub taken-gone : {w ms own gone : List ℕ} {n i y : ℕ} → y ≡ cell gone i → (y ≡ 0 → ⊥) → MarksTaken w ms n i own gone gone
 taken-gone {gone = gone} {i = i} e f =
     record {
-      is = λ {q} {ns} {xs} {ps} h t lt m.
+      is = λ {q} {ns} {xs} {ps} h t lt _ m.
           let few = t .list .few in
           let size = t .list .count in
           subst (λ (l : List ℕ). Marked gone l)
@@ -105,14 +108,41 @@ taken-gone {gone = gone} {i = i} e f =
           m;
     }
 
-pub taken-none : {w ms gone : List ℕ} {n i x : ℕ} {b : Bool} → x ≡ cell ms i → Is w 4 x b → not b ≡ true → MarksTaken w ms n i gone gone
+pub taken-none : {w ms own gone : List ℕ} {n i x : ℕ} {b : Bool} → x ≡ cell ms i → Is w 4 x b → not b ≡ true → MarksTaken w ms n i own gone gone
 taken-none {gone = gone} {i = i} {x = x} {b = b} e k f =
     record {
-      is = λ {q} {ns} {xs} {ps} h t lt m.
+      is = λ {q} {ns} {xs} {ps} h t lt _ m.
           subst (λ (l : List ℕ). Marked gone l)
           (sym (ap (takenByNode ns xs ps i)
           (ap (λ (y : ℕ). asAttr (nodeAt ns y)) (sym (few-at (t .list) e lt))
           ∙ no-attr (nodeAt ns x) (eqb-false (kindOf (nodeAt ns x)) 4 (sym (k .is h (few-below t e lt)) ∙ not-true b f)))))
+          m;
+    }
+
+-- nothing is added where the set takes up none of the others
+taken-nothing : (ns : List Node) (i : ℕ) (t : Attr) (ps : List ℕ) (j : ℕ) (ys : List ℕ)
+    → ((d : ℕ) → d < length ys → (i ≡ j + d → ⊥) → subsumesNode t (asAttr (nodeAt ns (getD ys d 0))) ≡ false) → takenBy ns i t ps j ys ≡ ps
+taken-nothing ns i t ps j [] h = refl
+taken-nothing ns i t ps j (m ∷ ms) h =
+    ap (λ (b : Bool). takenBy ns i t (if b (λ _. ps ++ (j ∷ [])) (λ _. ps)) (suc j) ms) (quiet (eqb i j) refl)
+    ∙ taken-nothing ns i t ps (suc j) ms (λ d lt other. h (suc d) (omega arith) (λ e. other (omega arith))) where
+      quiet : (b : Bool) → eqb i j ≡ b → wanted b (contains ps j) (subsumesNode t (asAttr (nodeAt ns m))) ≡ false
+      quiet true e = refl
+      quiet false e = ap (wanted false (contains ps j)) (h 0 (omega arith) (λ f. eqb-false i j e (omega arith))) ∙ if-false (not (contains ps j))
+
+node-idle : {ns : List Node} {xs own : List ℕ} (ps : List ℕ) (i : ℕ) (a : Option Attr) → Idle ns xs own → i < length xs → (cell own i ≡ 0 → ⊥)
+    → asAttr (nodeAt ns (getD xs i 0)) ≡ a → takenByNode ns xs ps i a ≡ ps
+node-idle ps i none o lt f e = refl
+node-idle {ns} {xs} ps i (some t) o lt f e =
+    ap (λ (l : List ℕ). if (contains ps i) (λ _. ps) (λ _. l)) (taken-nothing ns i t ps 0 xs (λ d l other. o .is i lt f e d l (λ z. other (omega arith))))
+    ∙ if-same (contains ps i) ps
+
+pub taken-own : {w ms own gone : List ℕ} {n i y : ℕ} → y ≡ cell own i → (y ≡ 0 → ⊥) → MarksTaken w ms n i own gone gone
+taken-own {gone = gone} {i = i} e f =
+    record {
+      is = λ {q} {ns} {xs} {ps} h t lt o m.
+          subst (λ (l : List ℕ). Marked gone l)
+          (sym (node-idle ps i (asAttr (nodeAt ns (getD xs i 0))) o (omega (arith, t .list .count)) (λ z. f (e ∙ z)) refl))
           m;
     }
 
@@ -154,11 +184,11 @@ module _ {w ms gone₀ : List ℕ} {n i x : ℕ} where
             };
       }
 
-  pub marking-done : {gone : List ℕ} {j y : ℕ} {b : Bool} → y ≡ cell gone₀ i → y ≡ 0 → x ≡ cell ms i → Is w 4 x b → not b ≡ false → Marking w ms n i x gone₀ gone j → n ≤ j
-      → MarksTaken w ms n i gone₀ gone
-  marking-done {gone} {j} {y} {b} e f g k z c le =
+  pub marking-done : {own gone : List ℕ} {j y : ℕ} {b : Bool} → y ≡ cell gone₀ i → y ≡ 0 → x ≡ cell ms i → Is w 4 x b → not b ≡ false → Marking w ms n i x gone₀ gone j → n ≤ j
+      → MarksTaken w ms n i own gone₀ gone
+  marking-done {gone = gone} {j} {y} {b} e f g k z c le =
       record {
-        is = λ {q} {ns} {xs} {ps} h m lt o.
+        is = λ {q} {ns} {xs} {ps} h m lt _ o.
             let v = nodeAt ns x in
             let lx = few-below m g lt in
             let few = m .list .few in
@@ -259,8 +289,9 @@ module _ {w ms : List ℕ} {n : ℕ} where
   pub absorbing-start : Absorbing w ms n (replicate mostMembers 0) 0
   absorbing-start = record { few = omega arith; is = λ h t. record { now = []; marked = marked-none; is = refl } }
 
-  pub absorbing-more : {gone gone′ : List ℕ} {i : ℕ} → Absorbing w ms n gone i → i < n → MarksTaken w ms n i gone gone′ → Absorbing w ms n gone′ (i + 1)
-  absorbing-more {gone} {gone′} {i} c lt g =
+  pub absorbing-more : {own gone gone′ : List ℕ} {i : ℕ} → MarksOwn w ms n (replicate mostMembers 0) own → Absorbing w ms n gone i → i < n → MarksTaken w ms n i own gone gone′
+      → Absorbing w ms n gone′ (i + 1)
+  absorbing-more {i = i} o c lt g =
       record {
         few = omega arith;
         is = λ {q} {ns} {xs} h t.
@@ -268,7 +299,7 @@ module _ {w ms : List ℕ} {n : ℕ} where
             let more = takenByNode ns xs (mid .now) i (asAttr (nodeAt ns (getD xs i 0))) in
             record {
               now = more;
-              marked = g .is h t lt (mid .marked);
+              marked = g .is h t lt (o .is h t (idle-none (t .list .few))) (mid .marked);
               is =
                   mid .is
                   ∙ ap (takenUp ns xs (mid .now) i) (drop-cons xs i 0 (omega (arith, t .list .count)))

@@ -16,8 +16,8 @@ use Rattle.lang_ty.specs.Nodes.{Arena, Word, Is}
 use Rattle.lang_ty.specs.Shapes.{Disjoint, Subtype}
 use Rattle.lang_ty.proofs.Words.{word-of, neg-at}
 use Rattle.members.specs.declared.lists.Members.{Members}
-use Rattle.members.specs.Lists.{Taken, Makes, Tests, Asks, Pairs, Beside, Sifts}
-use Rattle.simplify.specs.Asked.{overlap, redundant, sieve, anyMember, AnyPair}
+use Rattle.members.specs.Lists.{Taken, Makes, Asks, Pairs, Beside, Sifts}
+use Rattle.simplify.specs.Asked.{overlap, redundant, sieve, memberTest, AnyPair, AnyBeside}
 use Rattle.simplify.specs.declared.beside.Sieve.the-variants.{Needed}
 use Rattle.simplify.specs.declared.beside.MemberTest.the-variants.{Concrete}
 use Rattle.simplify.proofs.Cancelled.{no-inner, once}
@@ -84,7 +84,7 @@ module _ {w ms : List ℕ} (functor : ℕ) {n x : ℕ} {b : Bool} (neg : Is w 8 
       }
 
 -- `remove_redundant_negations`
-module _ {w : List ℕ} {m : Members} (functor : ℕ) {b : Bool} (some : Tests (anyMember Concrete) w m b) where
+module _ {w : List ℕ} {m : Members} (functor : ℕ) {b : Bool} (some : AnyBeside (memberTest Concrete) w (m .at) (m .count) (m .at) (m .count) b) where
   pub removes-none : not b ≡ true → Makes (remove-redundant-negations functor) w m m
   unfolding remove-redundant-negations
   removes-none e =
@@ -92,7 +92,7 @@ module _ {w : List ℕ} {m : Members} (functor : ℕ) {b : Bool} (some : Tests (
         is = λ {q} {ns} {xs} h t.
             subst (λ (l : List ℕ). Taken m l (length ns))
             (sym (ap (λ (v : Bool). if v (λ _. xs) (λ _. filter (λ (y : ℕ). not (redundant functor ns xs y)) xs))
-            (empty-any (isConcrete ns) xs ∙ ap not (sym (some .is h t)) ∙ e)))
+            (empty-any (isConcrete ns) xs ∙ ap not (sym (some .is h t t)) ∙ e)))
             t;
       }
 
@@ -103,7 +103,7 @@ module _ {w : List ℕ} {m : Members} (functor : ℕ) {b : Bool} (some : Tests (
         is = λ {q} {ns} {xs} h t.
             subst (λ (l : List ℕ). Taken r l (length ns))
             (sym (ap (λ (v : Bool). if v (λ _. xs) (λ _. filter (λ (y : ℕ). not (redundant functor ns xs y)) xs))
-            (empty-any (isConcrete ns) xs ∙ ap not (sym (some .is h t)) ∙ e)))
+            (empty-any (isConcrete ns) xs ∙ ap not (sym (some .is h t t)) ∙ e)))
             (g .is h t t);
       }
 

@@ -11,7 +11,8 @@ use Rattle.cells.specs.Part.{cell, if}
 use Rattle.rules.specs.Ceilings.{mostMembers}
 use Rattle.rules.specs.Plain.{any, filter, empty, both}
 use Rattle.rules.specs.Types.{Node, TyVar, Primitive, ListOf, Lambda, AttrSet, Union, Intersection, Named, Neg, Bottom, Top, State, Out, Run, bind, _>>=_, give, ask, kindOf, nodeAt, is}
-use Rattle.rules.specs.Members.{membersAt, innerOf, negatedInners, spared, sole, simplifyOne, simplifyEach, remove-redundant-negations, simplify-union-neg-intersection}
+use Rattle.rules.specs.Members.{membersAt, innerOf, negatedInners, spared, sole, simplifyOne, simplifyEach, takesSome, remove-redundant-negations}
+use Rattle.rules.specs.Members.{simplify-union-neg-intersection}
 use Rattle.laws.proofs.Keeping.{bind-none, Later, later-node, later-under, keeps-if, keeps-give, keeps-union}
 use Rattle.lang_ty.specs.declared.arena.Pass.{Pass}
 use Rattle.lang_ty.specs.Nodes.{Stands, Is, Count}
@@ -24,12 +25,13 @@ use Rattle.members.specs.declared.lists.AtMostOne.the-variants.{One}
 use Rattle.members.specs.declared.lists.Grown.{Grown as GrownBy}
 use Rattle.members.specs.declared.lists.Grown.the-variants.{On as OnG, Refused as RefusedG}
 use Rattle.members.specs.Lists.{Taken, Makes, Tests, Runs, Refuses, Soles, Grows, MembersOf, Beside, Sifts, AnswersFlow, AnswersPart, AnswersGrown, anyOfKind, ofKind, sift, firstOf}
-use Rattle.simplify.specs.Asked.{sieve, Spares, takes, anyMember}
-use Rattle.simplify.specs.Intersections.{Simplifies, SimplifiesInto, simplifyAll}
+use Rattle.simplify.specs.Asked.{sieve, Spares, takes, memberTest, AnyBeside}
+use Rattle.simplify.specs.Intersections.{Simplifies, SimplifiesInto, SimplifiesAll}
 use Rattle.simplify.specs.declared.beside.Sieve.the-variants.{Spared}
 use Rattle.simplify.specs.declared.beside.MemberTest.the-variants.{Taken as TakenT}
 use Rattle.members.proofs.Gathered.{few-at, few-below, gathered-few, refuses, wraps-union}
 use Rattle.members.proofs.Partway.{Loops, Partway, partway-start, partway-more, partway-no, partway-done}
+use Rattle.simplify.proofs.Cancelled.{inners-kept}
 use Rattle.cells.specs.Placed.{Under}
 
 -- `spared`
@@ -63,15 +65,10 @@ module _ {w ms : List ℕ} {q : Pass} {n x : ℕ} {b : Bool} (union : Is w 5 x b
             (g .is wraps-union on (subst (λ (k : ℕ). Taken m rest k) (on .arena .count) (some .is (on .arena) t lt)));
       }
 
-pub simplified-into : {w ms w′ out out′ : List ℕ} {q : Pass} {n i x k : ℕ} {p : AtMostOne} {r : GrownBy} → x ≡ cell ms i → Simplifies w q ms n x w′ p → Grows out k p out′ r
-    → SimplifiesInto w q ms n i out k w′ out′ r
-simplified-into {w′ = w′} {i = i} {p = p} e c g =
-    record {
-      is = λ {st} {xs} {got} on t lt a le.
-          let negs = negatedInners (st .nodes) xs in
-          g .is (simplifyOne negs (getD xs i 0) st) w′
-          (subst (λ (y : ℕ). AnswersPart (simplifyOne negs y st) w′ p) (few-at (t .list) e lt) (c .is on t (few-below t e lt))) a le;
-    }
+pub simplified-into : {w ms w′ out out′ : List ℕ} {q : Pass} {n x k : ℕ} {p : AtMostOne} {r : GrownBy} → Simplifies w q ms n x w′ p → Grows out k p out′ r
+    → SimplifiesInto w q ms n x out k w′ out′ r
+simplified-into {w′ = w′} {x = x} c g =
+    record { is = λ {st} {xs} {got} on t lt a le. g .is (simplifyOne (negatedInners (st .nodes) xs) x st) w′ (c .is on t lt) a le }
 
 -- `takes_some`
 module _ {w ms : List ℕ} {n x : ℕ} {b : Bool} (union : Is w 5 x b) where
@@ -104,50 +101,57 @@ simple-loops negs =
       keeps = λ x st. keeps-if (is (st .nodes) 5 x) _ _ (keeps-union (spared (st .nodes) negs x)) (keeps-give (x ∷ [])) st;
     }
 
-pub record Simplifying (w₀ : List ℕ) (q₀ : Pass) (ms : List ℕ) (n : ℕ) (w : List ℕ) (q : Pass) (out : List ℕ) (k i : ℕ) : Type 0 where
+pub record Simplifying (w₀ : List ℕ) (q₀ : Pass) (gs : List ℕ) (c : ℕ) (ms : List ℕ) (n : ℕ) (w : List ℕ) (q : Pass) (out : List ℕ) (k i : ℕ) : Type 0 where
   pub few : i ≤ n
-  pub is : {st : State} {xs : List ℕ} → Stands st w₀ q₀ → Taken (firstOf n ms) xs (q₀ .nodes) → Partway (simplifyEach (negatedInners (st .nodes) xs)) xs st w q out k i
+  pub is : {st : State} {xs ys : List ℕ} → Stands st w₀ q₀ → Taken (firstOf c gs) ys (length (st .nodes)) → Taken (firstOf n ms) xs (q₀ .nodes)
+      → Partway (simplifyEach (negatedInners (st .nodes) ys)) xs st w q out k i
 
-module _ {w₀ ms : List ℕ} {q₀ : Pass} {n : ℕ} where
-  pub simplifying-start : Simplifying w₀ q₀ ms n w₀ q₀ (replicate mostMembers 0) 0 0
-  simplifying-start = record { few = omega arith; is = λ on t. partway-start on }
+module _ {w₀ gs ms : List ℕ} {q₀ : Pass} {c n : ℕ} where
+  pub simplifying-start : Simplifying w₀ q₀ gs c ms n w₀ q₀ (replicate mostMembers 0) 0 0
+  simplifying-start = record { few = omega arith; is = λ on s t. partway-start on }
 
-  module _ {w out : List ℕ} {q : Pass} {k i : ℕ} (inv : Simplifying w₀ q₀ ms n w q out k i) where
-    module _ {w′ out′ : List ℕ} {r : GrownBy} (lt : i < n) (one : SimplifiesInto w q ms n i out k w′ out′ r) where
+  module _ {w out : List ℕ} {q : Pass} {k i : ℕ} (inv : Simplifying w₀ q₀ gs c ms n w q out k i) where
+    module _ {w′ out′ : List ℕ} {x : ℕ} {r : GrownBy} (lt : i < n) (here : x ≡ cell ms i) (one : SimplifiesInto w q gs c x out k w′ out′ r) where
       -- what the call gives for the member
-      called : {st : State} {xs : List ℕ} {g : GrownBy} → r ≡ g → (on : Stands st w₀ q₀) (t : Taken (firstOf n ms) xs (q₀ .nodes))
-          → AnswersGrown (simplifyOne (negatedInners (st .nodes) xs) (getD xs i 0) (inv .is on t .now)) w′ (inv .is on t .got) out′ g
-      called {st} {xs} e on t =
-          let p = inv .is on t in
+      called : {st : State} {xs ys : List ℕ} {g : GrownBy} → r ≡ g
+          → (on : Stands st w₀ q₀) (s : Taken (firstOf c gs) ys (length (st .nodes))) (t : Taken (firstOf n ms) xs (q₀ .nodes))
+          → AnswersGrown (simplifyOne (negatedInners (st .nodes) ys) (getD xs i 0) (inv .is on s t .now)) w′ (inv .is on s t .got) out′ g
+      called {st} {xs} {ys} {g} e on s t =
+          let p = inv .is on s t in
           let u : Under (length (st .nodes)) xs = subst (λ (j : ℕ). Under j xs) (sym (on .arena .count)) (t .below) in
-          subst (λ (g : GrownBy). AnswersGrown (simplifyOne (negatedInners (st .nodes) xs) (getD xs i 0) (p .now)) w′ (p .got) out′ g) e
-          (subst (λ (l : List ℕ). AnswersGrown (simplifyOne l (getD xs i 0) (p .now)) w′ (p .got) out′ r) (inners-stay (p .later) xs u)
-          (one .is (p .stands) (record { list = t .list; below = later-under xs (p .later) u }) lt (p .gathered) (omega (arith, p .few, t .list .count, t .list .few))))
+          let low = few-below (record { list = t .list; below = later-under xs (p .later) u }) here lt in
+          subst (λ (y : ℕ). AnswersGrown (simplifyOne (negatedInners (st .nodes) ys) y (p .now)) w′ (p .got) out′ g) (few-at (t .list) here lt)
+          (subst (λ (g : GrownBy). AnswersGrown (simplifyOne (negatedInners (st .nodes) ys) x (p .now)) w′ (p .got) out′ g) e
+          (subst (λ (l : List ℕ). AnswersGrown (simplifyOne l x (p .now)) w′ (p .got) out′ r) (inners-stay (p .later) ys (s .below))
+          (one .is (p .stands) (record { list = s .list; below = later-under ys (p .later) (s .below) }) low (p .gathered)
+          (omega (arith, p .few, t .list .count, t .list .few)))))
 
-      pub simplifying-more : {k′ : ℕ} {q′ : Pass} → r ≡ OnG k′ q′ → Simplifying w₀ q₀ ms n w′ q′ out′ k′ (i + 1)
+      pub simplifying-more : {k′ : ℕ} {q′ : Pass} → r ≡ OnG k′ q′ → Simplifying w₀ q₀ gs c ms n w′ q′ out′ k′ (i + 1)
       simplifying-more e =
           record {
             few = omega arith;
-            is = λ {st} {xs} on t. partway-more (simple-loops (negatedInners (st .nodes) xs)) (inv .is on t) (omega (arith, t .list .count)) (called e on t);
+            is = λ {st} {xs} {ys} on s t.
+                partway-more (simple-loops (negatedInners (st .nodes) ys)) (inv .is on s t) (omega (arith, t .list .count)) (called e on s t);
           }
 
-      pub simplifying-refused : {why : ℕ} {l : Listed} → r ≡ RefusedG why → Refuses why l → Runs simplifyAll w₀ q₀ (firstOf n ms) w′ l
+      pub simplifying-refused : {why : ℕ} {l : Listed} → r ≡ RefusedG why → Refuses why l → SimplifiesAll w₀ q₀ gs c (firstOf n ms) w′ l
       simplifying-refused e f =
           record {
-            is = λ {st} {xs} on t.
-                refuses (simplifyAll xs st) w′ f
-                (partway-no (simple-loops (negatedInners (st .nodes) xs)) (inv .is on t) (omega (arith, t .list .count)) (called e on t));
+            is = λ {st} {xs} {ys} on s t.
+                let negs = negatedInners (st .nodes) ys in
+                refuses (simplifyEach negs xs st) w′ f
+                (partway-no (simple-loops negs) (inv .is on s t) (omega (arith, t .list .count)) (called e on s t));
           }
 
-    pub simplifying-done : n ≤ i → Runs simplifyAll w₀ q₀ (firstOf n ms) w (record { flow = On q; members = firstOf k out })
+    pub simplifying-done : n ≤ i → SimplifiesAll w₀ q₀ gs c (firstOf n ms) w (record { flow = On q; members = firstOf k out })
     simplifying-done le =
         record {
-          is = λ {st} {xs} on t.
-              let p = inv .is on t in
+          is = λ {st} {xs} {ys} on s t.
+              let p = inv .is on s t in
               record {
                 after = p .now;
                 list = p .got;
-                is = partway-done (simple-loops (negatedInners (st .nodes) xs)) p (omega (arith, t .list .count));
+                is = partway-done (simple-loops (negatedInners (st .nodes) ys)) p (omega (arith, t .list .count));
                 stands = p .stands;
                 taken = record { list = gathered-few (p .gathered) (omega (arith, p .few, inv .few, t .list .count, t .list .few)); below = p .below };
               };
@@ -172,6 +176,12 @@ inners-none ns [] = refl
 inners-none ns (x ∷ xs) = inner-turn (nodeAt ns x) (negatedInners ns xs) (any (is ns 8) xs) (inners-none ns xs)
 
 -- the ways of `simplify_union_neg_intersection`
+abbrev changes : List Node → List ℕ → Bool
+changes ns xs = any (takes ns xs) xs
+
+abbrev simplifyAll : List ℕ → Run (List ℕ)
+simplifyAll xs = λ st. simplifyEach (negatedInners (st .nodes) xs) xs st
+
 abbrev tidied : ℕ → List ℕ → Run (List ℕ)
 tidied functor ys = ask (λ (ns : List Node). remove-redundant-negations functor ns (filter (λ (m : ℕ). not (is ns 9 m)) ys))
 
@@ -185,11 +195,11 @@ module _ (functor : ℕ) {w : List ℕ} {q : Pass} {m : Members} {a : Bool} (neg
   here : {st : State} {xs : List ℕ} → Stands st w q → Taken m xs (q .nodes) → Taken m xs (length (st .nodes))
   here {st} {xs} on t = subst (λ (k : ℕ). Taken m xs k) (sym (on .arena .count)) t
 
-  way : {st : State} {xs : List ℕ} {b c : Bool} → Stands st w q → Taken m xs (q .nodes) → any (is (st .nodes) 5) xs ≡ b → anyMember TakenT (st .nodes) xs ≡ c
+  way : {st : State} {xs : List ℕ} {b c : Bool} → Stands st w q → Taken m xs (q .nodes) → any (is (st .nodes) 5) xs ≡ b → changes (st .nodes) xs ≡ c
       → simplify-union-neg-intersection functor xs st ≡ route functor xs st (not a) b c
   unfolding simplify-union-neg-intersection
   way {st} {xs} on t e f =
-      ap (λ (v : Bool). route functor xs st v (any (is (st .nodes) 5) xs) (anyMember TakenT (st .nodes) xs)) (inners-none (st .nodes) xs ∙ ap not (sym (negs .is (on .arena) (here on t))))
+      ap (λ (v : Bool). route functor xs st v (any (is (st .nodes) 5) xs) (changes (st .nodes) xs)) (inners-none (st .nodes) xs ∙ ap not (sym (negs .is (on .arena) (here on t))))
       ∙ ap₂ (route functor xs st (not a)) e f
 
   pub simplify-plain : not a ≡ true → Runs (simplify-union-neg-intersection functor) w q m w (record { flow = On q; members = m })
@@ -199,7 +209,7 @@ module _ (functor : ℕ) {w : List ℕ} {q : Pass} {m : Members} {a : Bool} (neg
             record {
               after = st;
               list = xs;
-              is = way on t refl refl ∙ ap (λ (v : Bool). route functor xs st v (any (is (st .nodes) 5) xs) (anyMember TakenT (st .nodes) xs)) e;
+              is = way on t refl refl ∙ ap (λ (v : Bool). route functor xs st v (any (is (st .nodes) 5) xs) (changes (st .nodes) xs)) e;
               stands = on;
               taken = here on t;
             };
@@ -216,13 +226,26 @@ module _ (functor : ℕ) {w : List ℕ} {q : Pass} {m : Members} {a : Bool} (neg
                 list = remove-redundant-negations functor (st .nodes) xs;
                 is =
                     way on t (sym (unions .is (on .arena) (here on t)) ∙ not-true b f) refl
-                    ∙ ap (λ (v : Bool). route functor xs st v false (anyMember TakenT (st .nodes) xs)) e;
+                    ∙ ap (λ (v : Bool). route functor xs st v false (changes (st .nodes) xs)) e;
                 stands = on;
                 taken = g .is (on .arena) (here on t);
               };
         }
 
-    module _ {c : Bool} {w′ : List ℕ} {l : Listed} (f : not b ≡ false) (changed : Tests (anyMember TakenT) w m c) (each : Runs simplifyAll w q m w′ l) where
+    module _ {gs : Members} {c : Bool} {w′ : List ℕ} {l : Listed} (f : not b ≡ false) (gathered : Makes (sift (ofKind 8 true)) w m gs)
+        (taken : AnyBeside (memberTest TakenT) w (m .at) (m .count) (gs .at) (gs .count) c) (all : SimplifiesAll w q (gs .at) (gs .count) m w′ l) where
+      -- by the Negs alone, and so by all members
+      changed : Tests changes w m c
+      changed = record { is = λ {q} {ns} {xs} h t. taken .is h t (gathered .is h t) ∙ ap (λ (l : List ℕ). any (takesSome ns l) xs) (inners-kept ns xs) }
+
+      each : Runs simplifyAll w q m w′ l
+      each =
+          record {
+            is = λ {st} {xs} on t.
+                subst (λ (negs : List ℕ). AnswersFlow (simplifyEach negs xs st) w′ (l .members) (l .flow)) (inners-kept (st .nodes) xs)
+                (all .is on (gathered .is (on .arena) (here on t)) t);
+          }
+
       each-way : {st : State} {xs : List ℕ} {d : Bool} → Stands st w q → Taken m xs (q .nodes) → c ≡ d
           → simplify-union-neg-intersection functor xs st ≡ bind (simplifyAll xs st) (λ ys. if d (λ _. tidied functor ys) (λ _. give ys))
       each-way {st} {xs} {d} on t z =

@@ -6,7 +6,7 @@ use mathlib.Core.List.{List}
 use lib.ListN.{length, drop}
 use Rattle.rules.specs.Types.{Node, kindOf, nodeAt, is}
 use Rattle.rules.specs.Plain.{any, all, filter, contains, both}
-use Rattle.rules.specs.Members.{innerOf, negatedInners, isPositive, isConcrete, are-output-types-disjoint, is-output-subtype-or-equal, cancelled, spared, takesSome}
+use Rattle.rules.specs.Members.{innerOf, negatedInners, isPositive, isConcrete, are-output-types-disjoint, is-output-subtype-or-equal, spared, takesSome}
 use Rattle.lang_ty.specs.declared.arena.Pass.{Pass}
 use Rattle.lang_ty.specs.Nodes.{Arena}
 use Rattle.members.specs.declared.lists.Members.{Members}
@@ -14,7 +14,7 @@ use Rattle.members.specs.Lists.{firstOf, Taken}
 use Rattle.simplify.specs.declared.pairs.PairTest.{PairTest}
 use Rattle.simplify.specs.declared.pairs.PairTest.the-variants.{Overlap, Disjoint, NegatedBy, Negation, OtherKind}
 use Rattle.simplify.specs.declared.beside.Sieve.{Sieve}
-use Rattle.simplify.specs.declared.beside.Sieve.the-variants.{Needed, Positive, Unpaired, Spared}
+use Rattle.simplify.specs.declared.beside.Sieve.the-variants.{Needed, Positive, Spared}
 use Rattle.simplify.specs.declared.beside.MemberTest.{MemberTest}
 use Rattle.simplify.specs.declared.beside.MemberTest.the-variants.{Concrete, Subsumed, Taken as TakenT}
 
@@ -49,10 +49,6 @@ pub record AnyPair (f : List Node → ℕ → ℕ → Bool) (w ms : List ℕ) (f
 abbrev pub redundant : ℕ → List Node → List ℕ → ℕ → Bool
 redundant functor ns ms m = any (λ (a : ℕ). all (λ (c : ℕ). are-output-types-disjoint functor ns c a) (filter (isConcrete ns) ms)) (innerOf (nodeAt ns m))
 
--- x is one half of a pair among xs
-abbrev pub halved : List Node → List ℕ → ℕ → Bool
-halved ns xs x = cancelled ns (filter (isPositive ns) xs) (negatedInners ns xs) x
-
 -- a Neg among the members holds x or a wider primitive
 abbrev pub negated : List Node → List ℕ → ℕ → Bool
 negated ns xs x = any (is-output-subtype-or-equal ns x) (negatedInners ns xs)
@@ -60,7 +56,6 @@ negated ns xs x = any (is-output-subtype-or-equal ns x) (negatedInners ns xs)
 abbrev pub sieve : Sieve → List Node → List ℕ → ℕ → Bool
 sieve (Needed functor) ns xs x = not (redundant functor ns xs x)
 sieve Positive ns xs x = isPositive ns x
-sieve Unpaired ns xs x = not (halved ns xs x)
 sieve Spared ns xs x = not (negated ns xs x)
 
 -- what the negations among the members spare of node x
@@ -81,6 +76,7 @@ memberTest Concrete ns xs x = isConcrete ns x
 memberTest Subsumed ns xs x = subsumed ns xs x
 memberTest TakenT ns xs x = takes ns xs x
 
--- one of the members passes
-abbrev pub anyMember : MemberTest → List Node → List ℕ → Bool
-anyMember t ns xs = any (memberTest t ns xs) xs
+-- whether one of the members xs passes beside the members ys
+pub record AnyBeside (f : List Node → List ℕ → ℕ → Bool) (w ms : List ℕ) (n : ℕ) (gs : List ℕ) (c : ℕ) (r : Bool) : Type 0 where
+  pub is : {q : Pass} {ns : List Node} {xs ys : List ℕ} → Arena w q ns → Taken (firstOf n ms) xs (length ns) → Taken (firstOf c gs) ys (length ns)
+      → r ≡ any (f ns ys) xs

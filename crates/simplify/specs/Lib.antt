@@ -1,3 +1,4 @@
 pub mod Asked
+pub mod OwnKeys
 pub mod Unions
 pub mod Intersections

@@ -7,25 +7,24 @@ use lib.ListN.{length, getD}
 use lib.Dec.{eqb}
 use Rattle.cells.specs.Part.{cell, if}
 use Rattle.rules.specs.Ceilings.{mostMembers}
-use Rattle.rules.specs.Plain.{all, contains, both}
-use Rattle.rules.specs.Table.{Attr, fieldKeys}
+use Rattle.rules.specs.Plain.{filter, contains, both}
+use Rattle.rules.specs.Table.{Attr}
 use Rattle.rules.specs.Types.{Node, AttrSet, nodeAt, asAttr}
-use Rattle.rules.specs.Members.{noDynOrSame, subsumesNode, takenByNode, left}
+use Rattle.rules.specs.Members.{negatedInners, isPositive, cancelled, noDynOrSame, subsumesNode, takenByNode, left}
 use Rattle.lang_ty.specs.declared.arena.Pass.{Pass}
 use Rattle.lang_ty.specs.Nodes.{Arena}
 use Rattle.lang_ty.specs.Sets.{SetAt}
 use Rattle.members.specs.declared.lists.Members.{Members}
 use Rattle.members.specs.Lists.{Taken, firstOf}
+use Rattle.simplify.specs.OwnKeys.{Idle}
 
--- field k of the set t is not required, or is one of u's too
-abbrev pub covers : Attr → Attr → ℕ → Bool
-covers t u k = contains (t .optional) k || contains (fieldKeys (u .fields)) k
+-- x is one half of a pair: a positive that a Neg among ys holds, or the Neg of a positive among xs
+abbrev pub halved : List Node → List ℕ → List ℕ → ℕ → Bool
+halved ns xs ys x = cancelled ns (filter (isPositive ns) xs) (negatedInners ns ys) x
 
-pub record Covered (w : List ℕ) (a b k : ℕ) (r : Bool) : Type 0 where
-  pub is : {t u : Attr} → SetAt w a t → SetAt w b u → r ≡ covers t u k
-
-pub record FieldsCover (w : List ℕ) (a b : ℕ) (r : Bool) : Type 0 where
-  pub is : {t u : Attr} → SetAt w a t → SetAt w b u → r ≡ all (covers t u) (fieldKeys (t .fields))
+pub record Cancels (w ms : List ℕ) (n : ℕ) (gs : List ℕ) (c x : ℕ) (r : Bool) : Type 0 where
+  pub is : {q : Pass} {ns : List Node} {xs ys : List ℕ} → Arena w q ns → Taken (firstOf n ms) xs (length ns) → Taken (firstOf c gs) ys (length ns) → x < length ns
+      → r ≡ halved ns xs ys x
 
 -- the set at a has no dyn, or that of the one at b
 pub record DynCovers (w : List ℕ) (a b : ℕ) (r : Bool) : Type 0 where
@@ -50,8 +49,8 @@ pub record Takes (w ms : List ℕ) (i x j : ℕ) (gone : List ℕ) (r : Bool) : 
       → Marked gone ps → j < mostMembers → r ≡ both (not (eqb i j || contains ps j)) (λ _. subsumesNode t (asAttr (nodeAt ns (cell ms j))))
 
 -- the places that the member at place i takes up are marked too
-pub record MarksTaken (w ms : List ℕ) (n i : ℕ) (gone gone′ : List ℕ) : Type 0 where
-  pub is : {q : Pass} {ns : List Node} {xs ps : List ℕ} → Arena w q ns → Taken (firstOf n ms) xs (length ns) → i < n → Marked gone ps
+pub record MarksTaken (w ms : List ℕ) (n i : ℕ) (own gone gone′ : List ℕ) : Type 0 where
+  pub is : {q : Pass} {ns : List Node} {xs ps : List ℕ} → Arena w q ns → Taken (firstOf n ms) xs (length ns) → i < n → Idle ns xs own → Marked gone ps
       → Marked gone′ (takenByNode ns xs ps i (asAttr (nodeAt ns (getD xs i 0))))
 
 -- the members whose places are not marked

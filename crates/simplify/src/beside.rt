@@ -5,19 +5,17 @@ use cells::at;
 use lang_ty::arena;
 use lang_ty::arena::OutputTy;
 use members::lists::Members;
-use members::lists::contains;
 use members::lists::is_concrete;
 use members::lists::is_positive;
 use members::lists::keep_if;
 use members::lists::members_of;
-ghost use Rattle.members.specs.Lists.{Tests, Beside, Sifts, firstOf};
-ghost use Rattle.simplify.specs.Asked.{redundant, negated, subsumed, halved, takes, sieve, memberTest, anyMember, Spares};
+ghost use Rattle.members.specs.Lists.{Beside, Sifts};
+ghost use Rattle.simplify.specs.Asked.{redundant, negated, subsumed, takes, sieve, memberTest, AnyBeside, Spares};
 
 // The members that are kept.
 pub enum Sieve {
     Needed(u32),
     Positive,
-    Unpaired,
     Spared,
 }
 
@@ -52,30 +50,12 @@ fn is_negated(arena: &[u32], s: &[u32], n: u32, x: u32) -> bool
     any_pair(arena, PairTest::NegatedBy, s, 0, n, x)
 }
 
-// x is one half of a pair: a positive whose negation is a member, or the negation of a positive member.
-fn is_cancelled(arena: &[u32], s: &[u32], n: u32, x: u32) -> bool
-    ensures { λ r. ⌜ Beside halved (now (arena .entry)) (now (s .entry)) n x r ⌝ }
-{
-    if arena::is(arena, OutputTy::NEG, x) {
-        let inner = arena::word(arena, x, 1);
-        if !is_positive(arena, inner) {
-            return false;
-        }
-        return contains(s, n, inner);
-    }
-    if !is_positive(arena, x) {
-        return false;
-    }
-    any_pair(arena, PairTest::Negation, s, 0, n, x)
-}
-
 fn keeps(arena: &[u32], t: Sieve, s: &[u32], n: u32, x: u32) -> bool
     ensures { λ r. ⌜ Beside (sieve t) (now (arena .entry)) (now (s .entry)) n x r ⌝ }
 {
     match t {
         Sieve::Needed(functor) => !is_redundant(arena, functor, s, n, x),
         Sieve::Positive => is_positive(arena, x),
-        Sieve::Unpaired => !is_cancelled(arena, s, n, x),
         Sieve::Spared => !is_negated(arena, s, n, x),
     }
 }
@@ -135,13 +115,13 @@ fn passes(arena: &[u32], t: MemberTest, s: &[u32], n: u32, x: u32) -> bool
     }
 }
 
-// Whether one of the first n cells of s passes beside them all.
-pub fn any_member(arena: &[u32], t: MemberTest, s: &[u32], n: u32) -> bool
-    ensures { λ r. ⌜ Tests (anyMember t) (now (arena .entry)) (firstOf n (now (s .entry))) r ⌝ }
+// Whether one of the first n cells of s passes beside the first c cells of g.
+pub fn any_member(arena: &[u32], t: MemberTest, s: &[u32], n: u32, g: &[u32], c: u32) -> bool
+    ensures { λ r. ⌜ AnyBeside (memberTest t) (now (arena .entry)) (now (s .entry)) n (now (g .entry)) c r ⌝ }
 {
     let mut i = 0;
     while i < n {
-        if passes(arena, t, s, n, at(s, i)) {
+        if passes(arena, t, g, c, at(s, i)) {
             return true;
         }
         i += 1;

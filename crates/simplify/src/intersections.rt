@@ -20,16 +20,17 @@ use members::lists::grow;
 use members::lists::of_kind;
 use members::lists::refused;
 use members::lists::sole;
-ghost use Rattle.rules.specs.Members.{remove-redundant-negations, allSameNonPrimitive, disjointPair, has-type-contradiction, simplify-union-neg-intersection};
+ghost use Rattle.rules.specs.Members.{remove-redundant-negations, allSameNonPrimitive, disjointPair, subsumedByNegation, has-type-contradiction};
+ghost use Rattle.rules.specs.Members.{simplify-union-neg-intersection};
 ghost use Rattle.members.specs.Lists.{Makes, Tests, Runs, firstOf};
-ghost use Rattle.simplify.specs.Intersections.{Simplifies, SimplifiesInto, simplifyAll};
+ghost use Rattle.simplify.specs.Intersections.{Simplifies, SimplifiesInto, SimplifiesAll};
 
 // remove_redundant_negations
 pub fn remove_redundant_negations(arena: &[u32], functor: u32, m: Members) -> Members
     ensures { λ r. ⌜ Makes (remove-redundant-negations functor) (now (arena .entry)) m r ⌝ }
 {
     let ms = m.at;
-    if !any_member(arena, MemberTest::Concrete, &ms, m.count) {
+    if !any_member(arena, MemberTest::Concrete, &ms, m.count, &ms, m.count) {
         return m;
     }
     sift(arena, Sieve::Needed(functor), &ms, m.count, m)
@@ -62,14 +63,27 @@ fn any_disjoint_pair(arena: &[u32], functor: u32, s: &[u32], n: u32) -> bool
     false
 }
 
+// Whether a Neg among the members takes a positive one. The Negs are gathered, so that only these are scanned for each member.
+fn any_subsumed(arena: &[u32], m: Members) -> bool
+    ensures { λ r. ⌜ Tests subsumedByNegation (now (arena .entry)) m r ⌝ }
+{
+    if !any_of_kind(arena, m, OutputTy::NEG) {
+        return false;
+    }
+    let ms = m.at;
+    let negs = of_kind(arena, m, OutputTy::NEG, true);
+    let gs = negs.at;
+    any_member(arena, MemberTest::Subsumed, &ms, m.count, &gs, negs.count)
+}
+
 // has_type_contradiction
 pub fn has_type_contradiction(arena: &[u32], functor: u32, m: Members) -> bool
     ensures { λ r. ⌜ Tests (has-type-contradiction functor) (now (arena .entry)) m r ⌝ }
 {
-    let ms = m.at;
-    if any_member(arena, MemberTest::Subsumed, &ms, m.count) {
+    if any_subsumed(arena, m) {
         return true;
     }
+    let ms = m.at;
     let p = sift(arena, Sieve::Positive, &ms, m.count, m);
     let s = p.at;
     let n = p.count;
@@ -79,7 +93,7 @@ pub fn has_type_contradiction(arena: &[u32], functor: u32, m: Members) -> bool
     any_disjoint_pair(arena, functor, &s, n)
 }
 
-// What simplifying makes of one member.
+// What simplifying by the Negs among the first n cells of s makes of x.
 fn simplified(arena: &mut [u32], q: Pass, s: &[u32], n: u32, x: u32) -> AtMostOne
     ensures { λ r. ⌜ Simplifies (now (arena .entry)) q (now (s .entry)) n x (now (arena .exit)) r ⌝ }
 {
@@ -90,25 +104,25 @@ fn simplified(arena: &mut [u32], q: Pass, s: &[u32], n: u32, x: u32) -> AtMostOn
     sole(arena, q, OutputTy::UNION, m)
 }
 
-// What simplifying makes of member i, put after the first k cells of out.
+// The same, put after the first k cells of out.
 fn simplify_one(
     arena: &mut [u32],
     q: Pass,
     s: &[u32],
     n: u32,
-    i: u32,
+    x: u32,
     out: &mut [u32],
     k: u32,
 ) -> Grown
-    ensures { λ r. ⌜ SimplifiesInto (now (arena .entry)) q (now (s .entry)) n i (now (out .entry)) k (now (arena .exit)) (now (out .exit)) r ⌝ }
+    ensures { λ r. ⌜ SimplifiesInto (now (arena .entry)) q (now (s .entry)) n x (now (out .entry)) k (now (arena .exit)) (now (out .exit)) r ⌝ }
 {
-    let part = simplified(arena, q, s, n, at(s, i));
+    let part = simplified(arena, q, s, n, x);
     grow(out, k, part)
 }
 
-// Each member simplified, with what is left of it.
-fn simplify_each(arena: &mut [u32], p: Pass, m: Members) -> Listed
-    ensures { λ r. ⌜ Runs simplifyAll (now (arena .entry)) p m (now (arena .exit)) r ⌝ }
+// Each of m simplified by the Negs among the first c cells of g.
+fn simplify_each(arena: &mut [u32], p: Pass, g: &[u32], c: u32, m: Members) -> Listed
+    ensures { λ r. ⌜ SimplifiesAll (now (arena .entry)) p (now (g .entry)) c m (now (arena .exit)) r ⌝ }
 {
     let ms = m.at;
     let n = m.count;
@@ -117,7 +131,7 @@ fn simplify_each(arena: &mut [u32], p: Pass, m: Members) -> Listed
     let mut q = p;
     let mut i = 0;
     while i < n {
-        match simplify_one(arena, q, &ms, n, i, &mut out, k) {
+        match simplify_one(arena, q, g, c, at(&ms, i), &mut out, k) {
             Grown::On(more, r) => {
                 k = more;
                 q = r;
@@ -158,8 +172,10 @@ pub fn simplify_union_neg_intersection(
         };
     }
     let ms = m.at;
-    let changed = any_member(arena, MemberTest::Taken, &ms, m.count);
-    let l = simplify_each(arena, q, m);
+    let negs = of_kind(arena, m, OutputTy::NEG, true);
+    let gs = negs.at;
+    let changed = any_member(arena, MemberTest::Taken, &ms, m.count, &gs, negs.count);
+    let l = simplify_each(arena, q, &gs, negs.count, m);
     if !changed {
         return l;
     }

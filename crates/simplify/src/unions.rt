@@ -1,6 +1,7 @@
 // What is done to the members of a union: cancelling pairs, absorbing sets.
-use crate::beside::Sieve;
-use crate::beside::sift;
+use crate::own_keys::mark_own;
+use crate::pairs::PairTest;
+use crate::pairs::any_pair;
 use cells::at;
 use cells::set;
 use lang_ty::arena;
@@ -8,42 +9,53 @@ use lang_ty::arena::OutputTy;
 use lang_ty::attrset;
 use lang_ty::disjoint;
 use members::lists::Members;
+use members::lists::any_of_kind;
+use members::lists::contains;
+use members::lists::is_positive;
 use members::lists::keep_if;
+use members::lists::of_kind;
 ghost use Rattle.rules.specs.Members.{remove-tautological-pairs, absorb-subsumed-union-members};
 ghost use Rattle.members.specs.Lists.{Makes};
-ghost use Rattle.simplify.specs.Unions.{Covered, FieldsCover, DynCovers, Subsumes, MarksIf, Takes, MarksTaken, Leaves};
+ghost use Rattle.simplify.specs.Unions.{Cancels, DynCovers, Subsumes, MarksIf, Takes, MarksTaken, Leaves};
 
-// remove_tautological_pairs
+// x is one half of a pair: a positive that a Neg among the first c cells of g holds, or the Neg of a positive among the first n cells of s.
+fn is_cancelled(arena: &[u32], s: &[u32], n: u32, g: &[u32], c: u32, x: u32) -> bool
+    ensures { λ r. ⌜ Cancels (now (arena .entry)) (now (s .entry)) n (now (g .entry)) c x r ⌝ }
+{
+    if arena::is(arena, OutputTy::NEG, x) {
+        let inner = arena::word(arena, x, 1);
+        if !is_positive(arena, inner) {
+            return false;
+        }
+        return contains(s, n, inner);
+    }
+    if !is_positive(arena, x) {
+        return false;
+    }
+    any_pair(arena, PairTest::Negation, g, 0, c, x)
+}
+
+// remove_tautological_pairs. Without a Neg there is no pair; else the Negs are gathered, so that only these are scanned for each member.
 pub fn remove_tautological_pairs(arena: &[u32], m: Members) -> Members
     ensures { λ r. ⌜ Makes remove-tautological-pairs (now (arena .entry)) m r ⌝ }
 {
-    let ms = m.at;
-    sift(arena, Sieve::Unpaired, &ms, m.count, m)
-}
-
-// The field k of the set at a is not required, or is one of the set at b.
-fn is_covered(words: &[u32], a: u32, b: u32, k: u32) -> bool
-    ensures { λ r. ⌜ Covered (now (words .entry)) a b k r ⌝ }
-{
-    if attrset::has_optional(words, a, k) {
-        return true;
+    if !any_of_kind(arena, m, OutputTy::NEG) {
+        return m;
     }
-    attrset::has_field(words, b, k)
-}
-
-// Each required field of the set at a is a field of the one at b.
-fn fields_cover(words: &[u32], a: u32, b: u32) -> bool
-    ensures { λ r. ⌜ FieldsCover (now (words .entry)) a b r ⌝ }
-{
-    let n = attrset::fields(words, a);
+    let negs = of_kind(arena, m, OutputTy::NEG, true);
+    let gs = negs.at;
+    let c = negs.count;
+    let ms = m.at;
+    let n = m.count;
+    let mut out = [0u32; 128];
+    let mut k = 0;
     let mut i = 0;
     while i < n {
-        if !is_covered(words, a, b, attrset::key(words, a, i)) {
-            return false;
-        }
+        let x = at(&ms, i);
+        k = keep_if(&mut out, k, x, !is_cancelled(arena, &ms, n, &gs, c, x));
         i += 1;
     }
-    true
+    Members { count: k, at: out }
 }
 
 // The set at a has no dyn, or that of the one at b.
@@ -77,7 +89,7 @@ fn subsumes(arena: &[u32], x: u32, y: u32) -> bool
     if !dyn_covers(arena, a, b) {
         return false;
     }
-    fields_cover(arena, a, b)
+    attrset::fields_cover(arena, a, b)
 }
 
 fn mark_if(gone: &mut [u32], j: u32, taken: bool)
@@ -101,10 +113,13 @@ fn takes_up(arena: &[u32], s: &[u32], i: u32, x: u32, j: u32, gone: &[u32]) -> b
     subsumes(arena, x, at(s, j))
 }
 
-// Marks in gone the places of the members that the one at place i takes up, if it is a set that is not gone itself.
-fn mark_taken(arena: &[u32], s: &[u32], n: u32, i: u32, gone: &mut [u32])
-    ensures { λ _. ⌜ MarksTaken (now (arena .entry)) (now (s .entry)) n i (now (gone .entry)) (now (gone .exit)) ⌝ }
+// Marks in gone the places of the members that the one at place i takes up, if it is a set that is not gone itself. A place in own takes up none.
+fn mark_taken(arena: &[u32], s: &[u32], n: u32, i: u32, own: &[u32], gone: &mut [u32])
+    ensures { λ _. ⌜ MarksTaken (now (arena .entry)) (now (s .entry)) n i (now (own .entry)) (now (gone .entry)) (now (gone .exit)) ⌝ }
 {
+    if at(own, i) != 0 {
+        return;
+    }
     if at(gone, i) != 0 {
         return;
     }
@@ -142,10 +157,12 @@ pub fn absorb_subsumed_union_members(arena: &[u32], m: Members) -> Members
 {
     let ms = m.at;
     let n = m.count;
+    let mut own = [0u32; 128];
+    mark_own(arena, &ms, n, &mut own);
     let mut gone = [0u32; 128];
     let mut i = 0;
     while i < n {
-        mark_taken(arena, &ms, n, i, &mut gone);
+        mark_taken(arena, &ms, n, i, &own, &mut gone);
         i += 1;
     }
     left(m, &gone)

@@ -25,7 +25,7 @@ use Rattle.storage.specs.Vars.{IsPreserved}
 use Rattle.storage.specs.Entries.{Row, Uppers}
 use Rattle.storage.specs.Helds.{HoldsBounds, BeginsList, concretes, ownRule, OwnList, OwnBounds}
 use Rattle.laws.proofs.Filtering.{filter-length, filter-under, under-front, under-back}
-use Rattle.storage.proofs.Sifted.{filter-all}
+use Rattle.laws.proofs.Filtering.{filter-all}
 use Rattle.storage.proofs.EntryReads.{variable-at, entry-at-row, behind}
 use Rattle.storage.proofs.HeldIds.{held-list, held-none}
 use Rattle.cells.specs.Placed.{Under}

@@ -17,7 +17,8 @@ use Rattle.layout.specs.Layout.{arenaLength}
 use Rattle.rules.specs.Ceilings.{mostNames}
 use Rattle.rules.specs.Table.{Field, Attr, fieldKeys, fieldTypes, dynIds, attrKids}
 use Rattle.rules.specs.Types.{fieldWords, dynWords, attrWords, AttrSet}
-use Rattle.laws.proofs.Keeping.{ascending-few}
+use Rattle.laws.specs.Sound.{Orderly}
+use Rattle.laws.proofs.Ascending.{ascending-few, orderly-same}
 use Rattle.laws.proofs.Rows.{field-words-length, dyn-words-length, attr-words-length, few-dyns, set-count, set-fields, set-dyn, dyns-read, key-read}
 use Rattle.lang_ty.specs.declared.arena.Pass.{Pass}
 use Rattle.lang_ty.specs.declared.arena.Given.{Given}
@@ -90,6 +91,14 @@ retype-length : (fs : List Field) (xs : List ℕ) → length (retypeFields fs xs
 retype-length [] xs = refl
 retype-length (f ∷ fs) [] = ap suc (retype-length fs [])
 retype-length (f ∷ fs) (x ∷ xs) = ap suc (retype-length fs xs)
+
+keys-retyped : (fs : List Field) (xs : List ℕ) → fieldKeys (retypeFields fs xs) ≡ fieldKeys fs
+keys-retyped [] xs = refl
+keys-retyped (f ∷ fs) [] = ap (λ (ks : List ℕ). f .key ∷ ks) (keys-retyped fs [])
+keys-retyped (f ∷ fs) (x ∷ xs) = ap (λ (ks : List ℕ). f .key ∷ ks) (keys-retyped fs xs)
+
+pub orderly-retyped : (a : Attr) (xs : List ℕ) → Orderly a → Orderly (retyped a xs)
+orderly-retyped a xs o = orderly-same a (retypeFields (a .fields) xs) (keys-retyped (a .fields) xs) o
 
 retype-dyns : (d : Option ℕ) (x : ℕ) → length (dynIds (retypeDyn d x)) ≡ length (dynIds d)
 retype-dyns none x = refl
@@ -214,7 +223,7 @@ stores-set {table} {w = w} {w₂ = w₂} {a = a} {n = n} {d = d} {k = k} {len = 
           let optionals : k ≡ length (t .optional) = o .is at in
           let keys = ascending-few mostNames (fieldKeys (t .fields)) (orderly .ascend) (orderly .named) in
           let few : n ≤ mostNames = omega (arith, fields, length-map (t .fields) (λ (x : Field). x .key)) in
-          let short : k ≤ mostNames = omega (arith, optionals, orderly .optional) in
+          let short : k ≤ mostNames = omega (arith, optionals, orderly .few) in
           let one : d ≤ 1 = omega (arith, dyns, few-dyns (t .dyn)) in
           let long = attr-words-length t in
           let e₁ = s₁ .is (omega arith) in
@@ -244,5 +253,5 @@ stores-set {table} {w = w} {w₂ = w₂} {a = a} {n = n} {d = d} {k = k} {len = 
                 (holds-place (omega arith) (put-row t there puts dyn fields dyns few answers size fit));
           })
           (omega arith) interned .is {n = AttrSet (retyped t xs)} on
-          (record { cells = omega arith; few = omega arith; below = subst (λ (ys : List ℕ). Under (q .nodes) ys) (sym kids) under; short = omega arith }) refl;
+          (record { cells = omega arith; few = omega arith; below = subst (λ (ys : List ℕ). Under (q .nodes) ys) (sym kids) under; ordered = orderly-retyped t xs orderly; short = omega arith }) refl;
     }

@@ -1,5 +1,5 @@
 -- Where x is not kept nothing is written and nothing is to be added.
-use Rattle.merge.proofs.MergeStore.{puts-none, puts-one}
+use Rattle.merge.proofs.Sieving.{puts-none, puts-one}
 use borrow.Author.Needs.{needs}
 use Rattle.merge.proofs.put_if.Statement.{statement}
 use Rattle.merge.proofs.put_if.Tie as tie

@@ -20,4 +20,5 @@ store-merged-spec =
     (λ c _. search needs)
     (λ c _. search needs)
     (λ c. search needs)
+    (λ c. search needs)
     (λ c. search stores-merged))

@@ -14,4 +14,5 @@ write-flags-spec =
     (λ c _. search needs)
     (λ c _. search needs)
     (λ c. search needs)
+    (λ c. search needs)
     (λ c. search writes-flags))

@@ -11,13 +11,4 @@ returns-2 c = search preserves-not
 
 pub preserve-if-both-spec : {M : Type 1} → statement M
 preserve-if-both-spec =
-    tie.close
-    (tie.spec
-    (λ c _. search needs)
-    (λ c _. search needs)
-    (λ c _. search needs)
-    (λ c _. search needs)
-    (λ c _. search needs)
-    (λ c. search needs)
-    returns
-    returns-2)
+    tie.close (tie.spec (λ c _. search needs) (λ c _. search needs) (λ c _. search needs) (λ c. search needs) returns returns-2)

@@ -16,7 +16,7 @@ use Rattle.lang_ty.proofs.arc_ty.compare_numbers.Reads as compare-numbe
 use Rattle.lang_ty.proofs.arc_ty.compare_plain.Reads as compare-plain-reads
 use Rattle.lang_ty.proofs.arc_ty.item_at.Reads as item-at-reads
 use Rattle.lang_ty.proofs.arc_ty.items.Reads as items-reads
-use Rattle.lang_ty.proofs.arc_ty.least.Reads as least-reads
+use Rattle.lang_ty.proofs.attrset.least.Reads as least-reads
 use Rattle.lang_ty.proofs.arena.kind.Reads as kind-reads
 use Rattle.lang_ty.proofs.arc_ty.+compare+compare_item.{statement}
 use Rattle.lang_ty.proofs.arc_ty.+compare+compare_item.Tie.{close}

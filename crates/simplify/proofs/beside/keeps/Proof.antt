@@ -1,4 +1,4 @@
-use Rattle.simplify.proofs.Asking.{sieve-needed, sieve-positive, sieve-unpaired, sieve-spared}
+use Rattle.simplify.proofs.Asking.{sieve-needed, sieve-positive, sieve-spared}
 use borrow.Author.Needs.{needs}
 use Rattle.simplify.proofs.beside.keeps.Statement.{statement}
 use Rattle.simplify.proofs.beside.keeps.Tie as tie
@@ -13,9 +13,6 @@ keeps-spec =
     (λ c _. search needs)
     (λ c. search needs)
     (λ c _. search needs)
-    (λ c. search needs)
-    (λ c _. search needs)
     (λ c. search sieve-needed)
     (λ c. search sieve-positive)
-    (λ c. search sieve-unpaired)
     (λ c. search sieve-spared))

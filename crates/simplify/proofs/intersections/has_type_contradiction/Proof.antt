@@ -7,7 +7,6 @@ pub has-type-contradiction-spec : {M : Type 1} → statement M
 has-type-contradiction-spec =
     tie.close
     (tie.spec
-    (λ c. search needs)
     (λ c _. search needs)
     (λ c. search contradicts-taken)
     (λ c. search needs)

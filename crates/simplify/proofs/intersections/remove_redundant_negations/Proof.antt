@@ -8,6 +8,7 @@ remove-redundant-negations-spec =
     tie.close
     (tie.spec
     (λ c. search needs)
+    (λ c. search needs)
     (λ c _. search needs)
     (λ c. search removes-none)
     (λ c. search needs)

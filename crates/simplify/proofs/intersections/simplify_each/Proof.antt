@@ -8,19 +8,20 @@ use Rattle.simplify.proofs.intersections.simplify_each.Statement.{state
 use Rattle.simplify.proofs.intersections.simplify_each.Tie as tie
 
 abbrev Inv-loop : tie.InvT-loop
-Inv-loop arena₀ ms n out₀ k₀ q₀ i₀ arena out k q i = Simplifying arena₀ q₀ ms n arena q out k i × (length arena ≡ length arena₀) × (length out ≡ length out₀)
+Inv-loop arena₀ g c ms n out₀ k₀ q₀ i₀ arena out k q i = Simplifying arena₀ q₀ g c ms n arena q out k i × (length arena ≡ length arena₀) × (length out ≡ length out₀)
 
 abbrev μ-loop : tie.MeasureT-loop
-μ-loop arena₀ ms n out₀ k₀ q₀ i₀ arena out k q i = n - i
+μ-loop arena₀ g c ms n out₀ k₀ q₀ i₀ arena out k q i = n - i
 
 returns : tie.Need-returns Inv-loop μ-loop
 returns c =
     let at-why = c .before .before in
     let at-simplify-one = at-why .before .before .before .before .before in
-    let at-loop-test = at-simplify-one .before .before .before .before in
+    let at-at = at-simplify-one .before .before in
+    let at-loop-test = at-at .before .before .before in
     let at-loop = at-loop-test .before in
-    simplifying-refused (at-loop .loop .inv .0) (at-loop-test .loop-test .taken) (at-simplify-one .simplify-one .ensures) (at-why .why .given .1)
-    (c .refused .ensures)
+    simplifying-refused (at-loop .loop .inv .0) (at-loop-test .loop-test .taken) (at-at .at .ensures) (at-simplify-one .simplify-one .ensures)
+    (at-why .why .given .1) (c .refused .ensures)
 
 pub simplify-each-spec : {M : Type 1} → statement M
 simplify-each-spec =
@@ -30,6 +31,7 @@ simplify-each-spec =
     μ-loop
     (λ c. (simplifying-start, search needs, search needs))
     (λ c. search needs)
+    (λ c _. search needs)
     (λ c. search needs)
     (λ c _. search needs)
     (λ c. search needs)

@@ -8,10 +8,10 @@ use Rattle.simplify.proofs.unions.absorb_subsumed_union_members.Stateme
 use Rattle.simplify.proofs.unions.absorb_subsumed_union_members.Tie as tie
 
 abbrev Inv-loop : tie.InvT-loop
-Inv-loop arena m ms n gone₀ i₀ gone i = Absorbing arena ms n gone i × (length gone ≡ length gone₀)
+Inv-loop arena m ms n own gone₀ i₀ gone i = Absorbing arena ms n gone i × (length gone ≡ length gone₀)
 
 abbrev μ-loop : tie.MeasureT-loop
-μ-loop arena m ms n gone₀ i₀ gone i = n - i
+μ-loop arena m ms n own gone₀ i₀ gone i = n - i
 
 returns : tie.Need-returns Inv-loop μ-loop
 returns c = absorbing-done (c .before .before .before .loop .inv .0) (c .before .before .loop-test .left) (c .left .ensures)
@@ -22,7 +22,11 @@ absorb-subsumed-union-members-spec =
     (tie.spec
     Inv-loop
     μ-loop
+    (λ c. search needs)
+    (λ c. search needs)
+    (λ c _. search needs)
     (λ c. (absorbing-start, search needs))
+    (λ c. search needs)
     (λ c. search needs)
     (λ c. search needs)
     (λ c _. search needs)
