@@ -10,6 +10,7 @@
 //! 3. `edges` and `bench`, a command each; they use recheck's model.
 
 mod bench;
+mod breed;
 mod calls;
 mod compare;
 mod edges;
@@ -28,6 +29,7 @@ use report::Tally;
 
 const HELP: &str = "\
 host compare COUNT [SEED]   COUNT roots of random tables, ours beside the Rust's
+host slow COUNT [SEED]      COUNT slow tables, ours beside the Rust's
 host fuzz COUNT [SEED]      COUNT damaged and random inputs
 host recheck COUNT [SEED]   COUNT pairs of tables, and more damaged inputs
 host edges                  each refusal at its edge
@@ -35,8 +37,12 @@ host stack                  the stack that the calls take on deep inputs
 host bench                  our time per root beside the Rust's, and recheck's
 host bench ladders          our time for ladders beside the Rust's, alone
 host bench buckets          our time for nodes of one bucket, alone
+host bench slow             our time for slow tables beside the Rust's, alone
 host bench numbered         canon_numbered's beside canon's, alone
 host bench recheck          recheck's alone
+host breed CALL ROUNDS [SEED]
+                            slow tables, bred: CALL is canon, recheck, read or
+                            read-two
 ";
 
 /// A caller's thread may have no more.
@@ -70,17 +76,29 @@ fn job(arguments: &[&str]) -> Option<Job> {
         ["bench"] => Some(Box::new(bench::run)),
         ["bench", "ladders"] => Some(Box::new(bench::laddered)),
         ["bench", "buckets"] => Some(Box::new(bench::bucketed)),
+        ["bench", "slow"] => Some(Box::new(bench::slowed)),
         ["bench", "numbered"] => Some(Box::new(bench::numbered)),
         ["bench", "recheck"] => Some(Box::new(bench::rechecked)),
+        ["breed", call, rounds] => bred(call, rounds, "0"),
+        ["breed", call, rounds, seed] => bred(call, rounds, seed),
         [name, count] => counted(name, count, "0"),
         [name, count, seed] => counted(name, count, seed),
         _ => None,
     }
 }
 
+fn bred(call: &str, rounds: &str, seed: &str) -> Option<Job> {
+    let (rounds, seed) = (rounds.parse().ok()?, seed.parse().ok()?);
+    let call = call.to_string();
+    Some(Box::new(move || {
+        breed::run(&call, rounds, seed).unwrap_or(Tally::of(0, 1))
+    }))
+}
+
 fn counted(name: &str, count: &str, seed: &str) -> Option<Job> {
     let run = match name {
         "compare" => compare::run,
+        "slow" => compare::slow,
         "fuzz" => fuzz::run,
         "recheck" => recheck::run,
         _ => return None,

@@ -1,6 +1,8 @@
 //! Accepted tables from a seed, by profile. Each profile aims at rules that
 //! plain random tables seldom reach.
 
+pub mod slow;
+
 use crate::rng::Rng;
 use crate::table::{Entry, Root, Set, Table};
 
@@ -83,23 +85,49 @@ pub const PROFILES: &[Profile] = &[
     },
 ];
 
-/// The table of a profile (by its place in the list) and a seed.
-pub fn table(profile: usize, seed: u64) -> Table {
-    let salt = (profile as u64 + 1).wrapping_mul(0xd6e8_feb8_6659_fd93);
+/// Slow tables. They are no part of the series over all profiles, in which a
+/// table is to take little time.
+const SLOW_TABLES: Profile = Profile {
+    name: "slow",
+    about: "tables that take long for their size, as made by hand and bred",
+    make: slow::slow,
+};
+
+/// Its number, after those of the others.
+pub const SLOW: usize = PROFILES.len();
+
+/// All of them, the slow one last.
+pub fn profiles() -> impl Iterator<Item = &'static Profile> {
+    PROFILES.iter().chain([&SLOW_TABLES])
+}
+
+fn draft(seed: u64, make: impl FnOnce(&mut Draft)) -> Table {
     let mut draft = Draft {
         table: Table {
             budget: u32::MAX,
             ..Table::default()
         },
-        rng: Rng::new(seed ^ salt),
+        rng: Rng::new(seed),
     };
-    (PROFILES[profile].make)(&mut draft);
+    make(&mut draft);
     draft.table
+}
+
+/// The table of a profile (by its place in the list) and a seed.
+pub fn table(profile: usize, seed: u64) -> Table {
+    let salt = (profile as u64 + 1).wrapping_mul(0xd6e8_feb8_6659_fd93);
+    let make = PROFILES.get(profile).unwrap_or(&SLOW_TABLES).make;
+    draft(seed ^ salt, make)
+}
+
+/// The table of a slow shape in its full size.
+pub fn slow_table(shape: &slow::Shape) -> Table {
+    draft(0, |d| (shape.make)(d, slow::QUARTERS))
 }
 
 /// The place of a profile in the list.
 pub fn profile(name: &str) -> Option<usize> {
-    PROFILES.iter().position(|profile| profile.name == name)
+    profiles().position(|profile| profile.name == name)
 }
 
 /// The `index`th of an endless series over all profiles.

@@ -69,7 +69,7 @@ fn run(arguments: &[&str]) -> io::Result<bool> {
             _ => return Ok(false),
         },
         ["profiles"] => {
-            for profile in gen::PROFILES {
+            for profile in gen::profiles() {
                 writeln!(out, "{:<10}{}", profile.name, profile.about)?;
             }
         }
@@ -114,7 +114,8 @@ fn many(out: &mut impl Write, profile: &str, seed: u64, count: u64) -> io::Resul
             (_, Some(profile)) => (profile, gen::table(profile, seed + index)),
             _ => return Ok(false),
         };
-        let name = format!("{} {index}", gen::PROFILES[profile].name);
+        let kind = gen::profiles().nth(profile).map_or("", |kind| kind.name);
+        let name = format!("{kind} {index}");
         frame::write(out, "table", &name, &table.to_text())?;
     }
     Ok(true)

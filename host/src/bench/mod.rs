@@ -1,15 +1,16 @@
 //! Our time per root beside the Rust's on the same tables, on ladders, and on
-//! nodes of one bucket; canon_numbered's and recheck's beside canon's. Where an
+//! nodes of one bucket, and on slow tables; canon_numbered's and recheck's beside canon's. Where an
 //! earlier library is linked, its time beside ours too.
 
 mod beside;
 mod buckets;
-mod clock;
+pub mod clock;
 mod ladders;
 mod libraries;
 mod numbered;
 mod parts;
 mod processes;
+mod slow;
 mod subject;
 mod touched;
 
@@ -24,6 +25,8 @@ pub fn run() -> Tally {
     println!();
     numbered();
     println!();
+    slowed();
+    println!();
     rechecked()
 }
 
@@ -36,6 +39,12 @@ pub fn laddered() -> Tally {
 /// The part of buckets alone.
 pub fn bucketed() -> Tally {
     buckets::run();
+    Tally::default()
+}
+
+/// The part of slow tables alone.
+pub fn slowed() -> Tally {
+    slow::run();
     Tally::default()
 }
 

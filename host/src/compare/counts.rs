@@ -35,7 +35,7 @@ impl Counts {
     }
 }
 
-/// A row for each kind of table, and one for all. What no root came to has no
+/// A row for each kind of table that there were, and one for all. What no root came to has no
 /// column, but for differing.
 pub fn print(by_kind: &[Counts]) {
     let mut all = Counts::default();
@@ -49,7 +49,9 @@ pub fn print(by_kind: &[Counts]) {
     heads.extend(columns.iter().map(|(_, head)| head));
     print_heads(&heads);
     for (name, counts) in join::kinds().zip(by_kind) {
-        counts.print(name, &columns);
+        if counts.tables > 0 {
+            counts.print(name, &columns);
+        }
     }
     all.print("all", &columns);
 }

@@ -8,7 +8,7 @@ mod verdict;
 
 use oracle::gen;
 
-use crate::input::join::{self, JOINED};
+use crate::input::join::{self, JOINED, SLOW};
 use crate::report::{watch, Tally};
 use comparison::Comparison;
 
@@ -18,6 +18,21 @@ const SINGLE: u64 = 8;
 const DAMAGED: u64 = 4;
 /// For so many tables one is put together from several.
 const TOGETHER: u64 = 10;
+
+/// Compares `count` slow tables.
+pub fn slow(count: u64, seed: u64) -> Tally {
+    if !oracle::text_at_hand() {
+        println!("compare: the Rust text is not at hand, skipped");
+        return Tally::default();
+    }
+    let mut all = Comparison::new();
+    for seed in seed..seed + count {
+        let table = gen::table(gen::SLOW, seed);
+        all.table(SLOW, &format!("slow {seed}"), &table, false);
+    }
+    all.print();
+    Tally::of(all.roots, all.faults.count)
+}
 
 /// Compares at least `count` roots.
 pub fn run(count: u64, seed: u64) -> Tally {

@@ -7,10 +7,13 @@ use oracle::{gen, reader, Root, Set, Table};
 /// The number of such tables among the kinds of tables, after the profiles.
 pub const JOINED: usize = gen::PROFILES.len();
 
+/// The number of slow tables, after those.
+pub const SLOW: usize = JOINED + 1;
+
 /// The names of the kinds of tables that are counted each by itself.
 pub fn kinds() -> impl Iterator<Item = &'static str> {
     let profiles = gen::PROFILES.iter().map(|profile| profile.name);
-    profiles.chain(["joined"])
+    profiles.chain(["joined", "slow"])
 }
 
 /// A table after another, with at most so many of its roots: ids are moved,

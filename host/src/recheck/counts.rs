@@ -33,7 +33,9 @@ pub fn print(by_kind: &[Counts]) {
         "DIFFERS",
     ]);
     for (name, counts) in join::kinds().zip(by_kind) {
-        print_row(name, cells(counts));
+        if counts.pairs > 0 {
+            print_row(name, cells(counts));
+        }
     }
     print_row("all", sums(by_kind));
 }
