@@ -43,6 +43,7 @@ host bench recheck          recheck's alone
 host breed CALL ROUNDS [SEED]
                             slow tables, bred: CALL is canon, recheck, read or
                             read-two
+host bred CALL              the tables that were bred, timed once more
 ";
 
 /// A caller's thread may have no more.
@@ -79,6 +80,7 @@ fn job(arguments: &[&str]) -> Option<Job> {
         ["bench", "slow"] => Some(Box::new(bench::slowed)),
         ["bench", "numbered"] => Some(Box::new(bench::numbered)),
         ["bench", "recheck"] => Some(Box::new(bench::rechecked)),
+        ["bred", call] => bred_again(call),
         ["breed", call, rounds] => bred(call, rounds, "0"),
         ["breed", call, rounds, seed] => bred(call, rounds, seed),
         [name, count] => counted(name, count, "0"),
@@ -92,6 +94,13 @@ fn bred(call: &str, rounds: &str, seed: &str) -> Option<Job> {
     let call = call.to_string();
     Some(Box::new(move || {
         breed::run(&call, rounds, seed).unwrap_or(Tally::of(0, 1))
+    }))
+}
+
+fn bred_again(call: &str) -> Option<Job> {
+    let call = call.to_string();
+    Some(Box::new(move || {
+        breed::again(&call).unwrap_or(Tally::of(0, 1))
     }))
 }
 

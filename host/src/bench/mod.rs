@@ -6,7 +6,7 @@ mod beside;
 mod buckets;
 pub mod clock;
 mod ladders;
-mod libraries;
+pub mod libraries;
 mod numbered;
 mod parts;
 mod processes;

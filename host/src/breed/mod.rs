@@ -12,7 +12,9 @@ use oracle::rng::Rng;
 use oracle::{reader, Table};
 
 use crate::bench::clock::told;
-use crate::report::kept::keep;
+use crate::bench::libraries;
+use crate::calls::Library;
+use crate::report::kept::{keep, kept};
 use crate::report::rows::{print_heads, print_row};
 use crate::report::Tally;
 use subject::Call;
@@ -20,6 +22,8 @@ use subject::Call;
 const ROOTS: usize = 64;
 /// So many are told of.
 const TOLD: usize = 5;
+/// Where they are kept, under host/target.
+const FOLDER: &str = "bred";
 
 /// A table that was timed.
 struct Bred {
@@ -53,7 +57,7 @@ pub fn run(call: &str, rounds: u64, seed: u64) -> Option<Tally> {
         }
     }
     kept.sort_by_key(|bred| std::cmp::Reverse(bred.time));
-    tell(&call, &kept);
+    tell(&mut call, &kept);
     Some(Tally::default())
 }
 
@@ -88,16 +92,44 @@ fn changed(rng: &mut Rng, table: &Table, other: &Table) -> Table {
     table
 }
 
-fn tell(call: &Call, kept: &[Bred]) {
-    print_heads(&["from", "entries", "bytes", "time", "kept as"]);
+fn tell(call: &mut Call, kept: &[Bred]) {
+    heads("from");
     for (place, bred) in kept.iter().take(TOLD).enumerate() {
-        let text = bred.table.to_text();
-        let cells = [
-            bred.table.entries.len().to_string(),
-            text.len().to_string(),
-            told(bred.time),
-            keep("bred", &format!("{}-{place}", call.name()), &text),
-        ];
-        print_row(bred.origin, cells.into_iter());
+        keep(FOLDER, &file_name(call, place), &bred.table.to_text());
+        row(call, bred.origin, &bred.table);
     }
+}
+
+/// The tables that were kept, timed once more.
+pub fn again(call: &str) -> Option<Tally> {
+    let mut call = Call::named(call)?;
+    heads("kept as");
+    for place in 0..TOLD {
+        let name = file_name(&call, place);
+        let table = kept(FOLDER, &name).and_then(|text| reader::read(&text).ok())?;
+        row(&mut call, &name, &table);
+    }
+    Some(Tally::default())
+}
+
+fn file_name(call: &Call, place: usize) -> String {
+    format!("{}-{place}", call.name())
+}
+
+fn heads(first: &str) {
+    let heads = [first, "entries", "bytes", "roots", "ours"];
+    let earlier = libraries::heads(["before", "ours / before"]);
+    print_heads(&[&heads[..], &earlier].concat());
+}
+
+fn row(call: &mut Call, name: &str, table: &Table) {
+    let sizes = [
+        table.entries.len(),
+        table.to_text().len(),
+        table.roots.len(),
+    ];
+    let times = Library::ALL.map(|library| call.time_of(library, table));
+    let sizes = sizes.into_iter().map(|size| size.to_string());
+    let cells = sizes.chain([told(times[0])]);
+    print_row(name, cells.chain(libraries::cells(times)));
 }

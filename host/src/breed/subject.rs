@@ -7,7 +7,7 @@ use oracle::table::Entry;
 use oracle::{Form, Table};
 
 use crate::bench::clock::time;
-use crate::calls::{Canon, Input, Recheck, OUTPUT};
+use crate::calls::{Canon, Input, Library, Recheck, OUTPUT};
 
 /// canon with all roots, recheck with all of them redone, or what either reads.
 pub enum Call {
@@ -38,18 +38,22 @@ impl Call {
     }
 
     pub fn time(&mut self, table: &Table) -> Duration {
+        self.time_of(Library::Ours, table)
+    }
+
+    pub fn time_of(&mut self, library: Library, table: &Table) -> Duration {
         let mut out = vec![0; OUTPUT];
         match self {
             Call::Canon(canon) => {
                 let text = table.to_text();
                 time(|| {
-                    let _ = black_box(canon.bare(black_box(&text), &mut out));
+                    let _ = black_box(canon.bare_of(library, black_box(&text), &mut out));
                 })
             }
             Call::Read(canon) => {
                 let text = rootless(table).to_text();
                 time(|| {
-                    let _ = black_box(canon.bare(black_box(&text), &mut out));
+                    let _ = black_box(canon.bare_of(library, black_box(&text), &mut out));
                 })
             }
             Call::Recheck(recheck) => {
@@ -59,13 +63,13 @@ impl Call {
                 }
                 let input = input(&old, table);
                 time(|| {
-                    let _ = black_box(recheck.bare(black_box(&input), &mut out));
+                    let _ = black_box(recheck.bare_of(library, black_box(&input), &mut out));
                 })
             }
             Call::ReadTwo(recheck) => {
                 let input = input(table, table);
                 time(|| {
-                    let _ = black_box(recheck.bare(black_box(&input), &mut out));
+                    let _ = black_box(recheck.bare_of(library, black_box(&input), &mut out));
                 })
             }
         }

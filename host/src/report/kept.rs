@@ -1,8 +1,14 @@
-//! Tables that something is wrong with are kept under host/target, so that
-//! they can be looked at.
+//! Tables that something is wrong with, or that are slow, are kept under
+//! host/target, so that they can be looked at.
 
 use std::fs;
 use std::path::Path;
+
+/// A table that was kept.
+pub fn kept(folder: &str, name: &str) -> Option<Vec<u8>> {
+    let here = Path::new(env!("CARGO_MANIFEST_DIR"));
+    fs::read(here.join("target").join(folder).join(name)).ok()
+}
 
 /// Writes a table and tells its file, seen from the repository's root.
 pub fn keep(folder: &str, name: &str, text: &[u8]) -> String {
