@@ -11,8 +11,8 @@ use oracle::gen::{self, slow::SHAPES};
 use oracle::rng::Rng;
 use oracle::{reader, Table};
 
-use crate::bench::clock::told;
-use crate::bench::libraries;
+use crate::bench::clock::{median, told};
+use crate::bench::libraries::{self, Each};
 use crate::calls::Library;
 use crate::report::kept::{keep, kept};
 use crate::report::rows::{print_heads, print_row};
@@ -22,6 +22,8 @@ use subject::Call;
 const ROOTS: usize = 64;
 /// So many are told of.
 const TOLD: usize = 5;
+/// In medians of so many runs.
+const RUNS: usize = 3;
 /// Where they are kept, under host/target.
 const FOLDER: &str = "bred";
 
@@ -128,7 +130,13 @@ fn row(call: &mut Call, name: &str, table: &Table) {
         table.to_text().len(),
         table.roots.len(),
     ];
-    let times = Library::ALL.map(|library| call.time_of(library, table));
+    let mut times = Each::<Vec<Duration>>::default();
+    for _ in 0..RUNS {
+        for (library, times) in Library::ALL.into_iter().zip(&mut times) {
+            times.push(call.time_of(library, table));
+        }
+    }
+    let times = times.map(median);
     let sizes = sizes.into_iter().map(|size| size.to_string());
     let cells = sizes.chain([told(times[0])]);
     print_row(name, cells.chain(libraries::cells(times)));
