@@ -865,17 +865,23 @@ fn wide(d: &mut Draft) {
 /// Lambdas over distinct variables, each reached in both polarities.
 fn lambda_tree(d: &mut Draft, leaves: u32) -> u32 {
     let (lower, upper) = (d.prim(), d.prim());
-    let mut level: Vec<u32> = (0..leaves).map(|_| d.var(&[lower], &[upper])).collect();
+    let level: Vec<u32> = (0..leaves).map(|_| d.var(&[lower], &[upper])).collect();
+    let top = paired(d, level, Entry::Fn);
+    d.add(Entry::Fn(top, top))
+}
+
+/// Two and two of these in one entry, and those again, until there is one.
+fn paired(d: &mut Draft, mut level: Vec<u32>, make: fn(u32, u32) -> Entry) -> u32 {
     while level.len() > 1 {
         level = level
             .chunks(2)
             .map(|pair| match *pair {
-                [a, b] => d.add(Entry::Fn(a, b)),
+                [a, b] => d.add(make(a, b)),
                 _ => pair[0],
             })
             .collect();
     }
-    d.add(Entry::Fn(level[0], level[0]))
+    level[0]
 }
 
 /// Unions of 2, 3, 4 and more members, each with one more than the last, and

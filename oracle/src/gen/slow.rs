@@ -2,7 +2,7 @@
 //! (`host breed`). Each shape makes lists of as many members as may be, looked
 //! through as often as 8,192 ids allow.
 
-use super::{padded_name, Draft};
+use super::{padded_name, paired, Draft};
 use crate::table::{Entry, Root, Set};
 
 pub struct Shape {
@@ -94,6 +94,15 @@ fn over(d: &mut Draft, ids: &[u32], at_a_time: usize) -> u32 {
     d.var(&parts, &[])
 }
 
+/// This part of so many entries, all alike, and a root over them, some at a time.
+fn many(d: &mut Draft, entry: Entry, full: u32, part: u32, at_a_time: usize) {
+    let ids: Vec<u32> = (0..of_quarters(full, part))
+        .map(|_| d.add(entry.clone()))
+        .collect();
+    let whole = over(d, &ids, at_a_time);
+    root(d, whole, true);
+}
+
 /// 80 variables whose lowers are the same 40 open sets of 60 fields.
 fn sets_alike(d: &mut Draft, part: u32) {
     let sets = alike(d, 40, of_quarters(60, part), true);
@@ -164,11 +173,7 @@ fn taken_up(d: &mut Draft, sets: &[u32], part: u32) {
         open: true,
         ..Set::default()
     }));
-    let unions: Vec<u32> = (0..of_quarters(1_200, part))
-        .map(|_| d.add(Entry::Union(union, empty)))
-        .collect();
-    let whole = over(d, &unions, 60);
-    root(d, whole, true);
+    many(d, Entry::Union(union, empty), 1_200, part, 60);
 }
 
 /// 100 variables with the same 60 uppers, sets of optional fields that no other
@@ -216,11 +221,7 @@ fn unions_flattened(d: &mut Draft, part: u32) {
     let one = d.var(&members, &[]);
     members.reverse();
     let other = d.var(&members, &[]);
-    let unions: Vec<u32> = (0..of_quarters(1_700, part))
-        .map(|_| d.add(Entry::Union(one, other)))
-        .collect();
-    let whole = over(d, &unions, 100);
-    root(d, whole, true);
+    many(d, Entry::Union(one, other), 1_700, part, 100);
 }
 
 /// Many unions of 126 lambdas with the negation of another type.
@@ -229,31 +230,15 @@ fn unions_with_negation(d: &mut Draft, part: u32) {
     let one = d.var(&members[1..], &[]);
     let prim = d.prim();
     let neg = d.add(Entry::Neg(prim));
-    let unions: Vec<u32> = (0..of_quarters(1_700, part))
-        .map(|_| d.add(Entry::Union(one, neg)))
-        .collect();
-    let whole = over(d, &unions, 100);
-    root(d, whole, true);
+    many(d, Entry::Union(one, neg), 1_700, part, 100);
 }
 
 /// 100 open sets, intersected in pairs and these again, and many intersections
 /// of that with itself.
 fn intersections_flattened(d: &mut Draft, part: u32) {
-    let mut level = alike(d, 100, 20, true);
-    while level.len() > 1 {
-        level = level
-            .chunks(2)
-            .map(|pair| match *pair {
-                [a, b] => d.add(Entry::Inter(a, b)),
-                _ => pair[0],
-            })
-            .collect();
-    }
-    let inters: Vec<u32> = (0..of_quarters(900, part))
-        .map(|_| d.add(Entry::Inter(level[0], level[0])))
-        .collect();
-    let whole = over(d, &inters, 100);
-    root(d, whole, true);
+    let sets = alike(d, 100, 20, true);
+    let top = paired(d, sets, Entry::Inter);
+    many(d, Entry::Inter(top, top), 900, part, 100);
 }
 
 /// Many intersections of two unions that share 126 of their 127 members.
@@ -261,9 +246,5 @@ fn unions_factored(d: &mut Draft, part: u32) {
     let members = lambdas(d);
     let one = d.var(&members[1..], &[]);
     let other = d.var(&members[..members.len() - 1], &[]);
-    let inters: Vec<u32> = (0..of_quarters(900, part))
-        .map(|_| d.add(Entry::Inter(one, other)))
-        .collect();
-    let whole = over(d, &inters, 100);
-    root(d, whole, true);
+    many(d, Entry::Inter(one, other), 900, part, 100);
 }
