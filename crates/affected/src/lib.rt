@@ -1,5 +1,7 @@
 // Which roots an edit affects: those with a chain of bounds or children to an entry that differs. The chains are followed backwards from all
 // differing entries at once, so that each entry and each id in it is looked at once for all roots.
+#![tactic(auto)]
+
 ghost use Rattle.std.specs.Prelude.{[], ◌∷◌};
 ghost use Rattle.affected.specs.Reaches.{Marks, MarksIf, MarksDiffering, MarksBefore, Spreads, MarksReaching, FlagsRoots, FlagsRedone};
 

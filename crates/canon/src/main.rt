@@ -1,4 +1,6 @@
 // canon: a table on standard input, its listing on standard output.
+#![tactic(auto)]
+
 use libc::STDIN_FILENO;
 use rules::Form;
 

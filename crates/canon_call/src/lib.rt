@@ -1,4 +1,6 @@
 // canon, canon_numbered and canon_root. A call tests what is lent to it, refuses a short scratch with 20 before all else, and leaves every scratch zero.
+#![tactic(auto)]
+
 pub mod program;
 
 ghost use Rattle.rules.specs.declared.Form.TheVariants.{Plain, Numbered};

@@ -1,4 +1,6 @@
 // canon_numbered: a table on standard input, its numbered listing on standard output.
+#![tactic(auto)]
+
 use libc::STDIN_FILENO;
 use rules::Form;
 

@@ -1,4 +1,6 @@
 // The rows of an old and a new table compared.
+#![tactic(auto)]
+
 ghost use Rattle.compare.specs.Compares.{SameCells, Between, SameSpans, SameRow, SameWords, SameRows, SameCounts, Comparable};
 
 use cells::{add, at, get, place};

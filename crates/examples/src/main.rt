@@ -1,5 +1,7 @@
 // Runs the examples: each record of the input has what a call is given and the answer that it must print. Writes each record that differs,
 // then how many were tried and how many differ.
+#![tactic(auto)]
+
 ghost use Rattle.std.specs.Prelude.{◌≡◌, ◌<◌, ◌≤◌, length};
 ghost use Rattle.examples.specs.Records.{Ahead, Behind};
 

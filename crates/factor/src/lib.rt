@@ -1,4 +1,6 @@
 // Factoring: members that all unions of an intersection share come out of it.
+#![tactic(auto)]
+
 ghost use Rattle.std.specs.Prelude.{◌<◌};
 ghost use Rattle.rules.specs.Members.{factor_shared_from_intersection};
 ghost use Rattle.rules.specs.Order.{sort};

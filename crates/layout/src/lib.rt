@@ -1,5 +1,7 @@
 // What lies where in the lent slices, and how long each of them is. Nothing else knows: a length that changes is changed here, and in
 // specs/Layout.antt, which has the same numbers for the contracts.
+#![tactic(auto)]
+
 ghost use Rattle.std.specs.Prelude.{◌≡◌};
 ghost use Rattle.layout.specs.Layout.{area_length, heads_at, negated_at, TableStated, PassStated, IndexStated, LinksStated, OthersStated, LengthsStated};
 

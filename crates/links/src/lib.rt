@@ -1,4 +1,6 @@
 // Links from each entry of a table to every id in it, held in the working slice, so that chains of bounds and children can be followed backwards.
+#![tactic(auto)]
+
 ghost use Rattle.std.specs.Prelude.{[], ◌∷◌};
 ghost use Rattle.links.specs.Links.{LinksTo, LinksEach, LinksList, LinksBounds, LinksSet, LinksEntry, LinksAll};
 

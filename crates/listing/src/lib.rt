@@ -1,4 +1,6 @@
 // The listing: the lines of a root's answer as text.
+#![tactic(auto)]
+
 pub mod lines;
 pub mod walk;
 pub mod write;

@@ -1,4 +1,6 @@
 // Negation.
+#![tactic(auto)]
+
 ghost use Rattle.std.specs.Prelude.{◌≡◌};
 ghost use Rattle.negation.specs.Negations.{counting, Counted, Entered, Turns, StoresNegation, NegatesSingle, Recalled, Noted, Forgets, Negates, NegatesOutput};
 

@@ -1,4 +1,6 @@
 // An old listing: whether it is in form for the roots of a table, and where each root's lines stand.
+#![tactic(auto)]
+
 ghost use Rattle.std.specs.Prelude.{◌≤◌, length};
 ghost use Rattle.rules.specs.Types.{node_kinds};
 ghost use Rattle.rules.specs.Listing.{head_kinds};

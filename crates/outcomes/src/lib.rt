@@ -1,4 +1,6 @@
 // What a call comes to, the test of what is lent to it, a text brought from the draft to the output, and the scratch wiped.
+#![tactic(auto)]
+
 ghost use Rattle.outcomes.specs.Outcomes.{Short, Fits, Copies, Wiped};
 
 use cells::{wipe, wipe_bytes};

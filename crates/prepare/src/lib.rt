@@ -1,4 +1,6 @@
 // A table that was read, prepared for its runs: what its passes are given, and the facts that they look up in its slice.
+#![tactic(auto)]
+
 ghost use Rattle.prepare.specs.Prepares.{Number, FirstEntry, FirstPair, FirstMark, FirstRoot, SetsMark, SetsMarks, IsFunctor, Functor, Budget, Prepares};
 
 use cells::{add, at, get, place, put};

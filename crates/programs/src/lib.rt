@@ -1,4 +1,6 @@
 // What the programs share beside the calls: scratch of full length, what is shown of an outcome, the parts of an input, and what is written.
+#![tactic(auto)]
+
 ghost use Rattle.std.specs.Prelude.{◌≡◌, ◌≤◌, length};
 ghost use Rattle.layout.specs.Layout.{draft_length, table_length, arena_length, line_length, work_length};
 ghost use Rattle.programs.specs.Shows.{ShowsOutcome};

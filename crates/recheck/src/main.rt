@@ -1,4 +1,6 @@
 // recheck: an old table, a line `next`, a new table, `next` and an old listing on standard input, the new listing on standard output.
+#![tactic(auto)]
+
 use libc::STDIN_FILENO;
 use rules::Form;
 

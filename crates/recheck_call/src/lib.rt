@@ -1,5 +1,7 @@
 // recheck and recheck_numbered: the listing of a table that was edited, with the listing from before the edit. A root that no edited entry is reached from
 // keeps its old lines. A call tests what is lent to it, refuses a short scratch with 20 before all else, and leaves every scratch zero.
+#![tactic(auto)]
+
 pub mod program;
 
 ghost use Rattle.rules.specs.declared.Form.TheVariants.{Plain, Numbered};

@@ -1,4 +1,6 @@
 // recheck_numbered: recheck, with a numbered listing before and after.
+#![tactic(auto)]
+
 use libc::STDIN_FILENO;
 use rules::Form;
 

@@ -1,4 +1,6 @@
 // The rules: what they are is in specs/. The code has the plain types that the rules and the programs share.
+#![tactic(auto)]
+
 ghost use Rattle.std.specs.Prelude.{◌≡◌};
 ghost use Rattle.rules.specs.Types as types;
 

@@ -1,4 +1,6 @@
 // The public calls over byte slices for a Rust or C host: `answers` has what a call comes to, `canon_call` and `recheck_call` the calls.
+#![tactic(auto)]
+
 ghost use Rattle.rules.specs.declared.Form.TheVariants.{Plain, Numbered};
 ghost use Rattle.canon_call.specs.Called.{Canon, CanonRoot};
 ghost use Rattle.recheck_call.specs.Rechecked.{Rechecked};

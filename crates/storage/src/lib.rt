@@ -1,4 +1,6 @@
 // What a pass reads and notes: a table's entries, representatives, what is counted and noted, ids held, a variable and a set as nodes.
+#![tactic(auto)]
+
 pub mod entries;
 pub mod equiv;
 pub mod given;

@@ -1,4 +1,6 @@
 // A whole table text, read into rows, one for each line; refusals 1 to 5 by number and line.
+#![tactic(auto)]
+
 pub mod judging;
 pub mod kinds;
 pub mod ranges;

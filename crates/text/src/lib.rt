@@ -1,4 +1,6 @@
 // One line of text, read into a row of words: decimals, lists, names, and fields by their shape.
+#![tactic(auto)]
+
 pub mod kinds;
 
 ghost use Rattle.std.specs.Prelude.{◌≡◌, [], ◌∷◌, ◌≤◌, length};
