@@ -105,11 +105,11 @@ dyn_read {w} {p} (some d) h =
     ∙ ap some (ap (cell w) (omega arith) ∙ holds_head (holds_tail h))
 
 fields_read : {w : List ℕ} {p : ℕ} (fs : List Field) → Holds w p (field_words fs) → fields_at w p (length fs) ≡ fs
-fields_read [] h = refl
-fields_read {w} {p} (f ∷ fs) h =
+fields_read {w} {p = p} [] h = refl
+fields_read {w} {p = p} (f ∷ fs) h =
     ap₂ {C = List Field} (λ (g : Field) (gs : List Field). g ∷ gs)
     (ap₂ {C = Field} (λ (k t : ℕ). record { key = k; type = t }) (holds_head h) (ap (cell w) (omega arith) ∙ holds_head (holds_tail h)))
-    (fields_read fs (holds_place (omega arith) (holds_tail (holds_tail h))))
+    (fields_read {p = p + 2} fs (holds_place (omega arith) (holds_tail (holds_tail h))))
 
 -- field i, its key and then its type
 pub key_read : {w : List ℕ} {p : ℕ} (fs : List Field) (i : ℕ) → Holds w p (field_words fs) → i < length fs → cell w (p + 2 * i) ≡ get_or (field_keys fs) i 0

@@ -112,13 +112,13 @@ impl DraftSlice {
 
 // The numbers above are those that the contracts name.
 pub fn stated()
-    ensures* table { do ⌜ TableStated (← (⟦TableSlice::MARKS⟧).entry) (← (⟦TableSlice::PRESERVED⟧).entry) (← (⟦TableSlice::ROWS⟧).entry) (← (⟦TableSlice::WORDS⟧).entry) ⌝ }
-    ensures* pass { do ⌜ PassStated (← (⟦ArenaSlice::WORDS⟧).entry) (← (⟦WorkSlice::BITS⟧).entry) (← (⟦WorkSlice::SEEN⟧).entry) (← (⟦WorkSlice::HELD⟧).entry) ⌝ }
-    ensures* index { do ⌜ IndexStated (← (⟦ArenaSlice::EARLIER⟧).entry) (← (⟦ArenaSlice::HASHES⟧).entry) (← (⟦ArenaSlice::NEWEST⟧).entry) (← (⟦ArenaSlice::BUCKETS⟧).entry) ⌝ }
-    ensures* heads { do ⌜ (← (⟦LinkSlice::HEAD⟧).entry) ≡ heads_at ⌝ }
-    ensures* links { do ⌜ LinksStated (← (⟦LinkSlice::NEXT⟧).entry) (← (⟦LinkSlice::FROM⟧).entry) (← (⟦LinkSlice::MARKS⟧).entry) (← (⟦LinkSlice::QUEUE⟧).entry) ⌝ }
-    ensures* others { do ⌜ OthersStated (← (⟦WorkSlice::COUNTED_NODES⟧).entry) (← (⟦WorkSlice::COUNTED_CELLS⟧).entry) (← (⟦SpanSlice::REDONE⟧).entry) (← (⟦ArenaSlice::LINE⟧).entry) ⌝ }
-    ensures* negated { do ⌜ (← (⟦WorkSlice::NEGATED⟧).entry) ≡ negated_at ⌝ }
-    ensures* area { do ⌜ (← (⟦WorkSlice::AREA⟧).entry) ≡ area_length ⌝ }
-    ensures* lengths { do ⌜ LengthsStated (← (⟦TableSlice::LENGTH⟧).entry) (← (⟦ArenaSlice::LENGTH⟧).entry) (← (⟦WorkSlice::LENGTH⟧).entry) (← (⟦DraftSlice::LENGTH⟧).entry) ⌝ }
+    ensures table { TableStated TableSlice.MARKS TableSlice.PRESERVED TableSlice.ROWS TableSlice.WORDS }
+    ensures pass { PassStated ArenaSlice.WORDS WorkSlice.BITS WorkSlice.SEEN WorkSlice.HELD }
+    ensures index { IndexStated ArenaSlice.EARLIER ArenaSlice.HASHES ArenaSlice.NEWEST ArenaSlice.BUCKETS }
+    ensures heads { LinkSlice.HEAD ≡ heads_at }
+    ensures links { LinksStated LinkSlice.NEXT LinkSlice.FROM LinkSlice.MARKS LinkSlice.QUEUE }
+    ensures others { OthersStated WorkSlice.COUNTED_NODES WorkSlice.COUNTED_CELLS SpanSlice.REDONE ArenaSlice.LINE }
+    ensures negated { WorkSlice.NEGATED ≡ negated_at }
+    ensures area { WorkSlice.AREA ≡ area_length }
+    ensures lengths { LengthsStated TableSlice.LENGTH ArenaSlice.LENGTH WorkSlice.LENGTH DraftSlice.LENGTH }
 {}

@@ -126,7 +126,7 @@ fn counted(t: Table, s: u32) -> Table
 
 // Whether there are too many names, or this row of section s is a name of too many bytes.
 fn names_over(t: Table, s: u32, size: usize) -> bool
-    ensures* { do ⌜ NamesOver (← (⟦Table::NAMES⟧).entry) (← (⟦Table::LONGEST_NAME⟧).entry) t s size result ⌝ }
+    ensures { NamesOver Table.NAMES Table.LONGEST_NAME t s size result }
 {
     if Table::NAMES < t.names {
         return true;
@@ -139,7 +139,7 @@ fn names_over(t: Table, s: u32, size: usize) -> bool
 
 // Whether there are too many entries, or too many ids and keys in them.
 fn entries_over(t: Table, ids: usize) -> bool
-    ensures* { do ⌜ EntriesOver (← (⟦Table::ENTRIES⟧).entry) (← (⟦Table::IDS⟧).entry) t ids result ⌝ }
+    ensures { EntriesOver Table.ENTRIES Table.IDS t ids result }
 {
     if Table::ENTRIES < t.entries {
         return true;
@@ -149,7 +149,7 @@ fn entries_over(t: Table, ids: usize) -> bool
 
 // Whether there are too many pairs, marks or roots.
 fn rest_over(t: Table) -> bool
-    ensures* { do ⌜ RestOver (← (⟦Table::PAIRS⟧).entry) (← (⟦Table::MARKS⟧).entry) (← (⟦Table::ROOTS⟧).entry) t result ⌝ }
+    ensures { RestOver Table.PAIRS Table.MARKS Table.ROOTS t result }
 {
     if Table::PAIRS < t.pairs {
         return true;
