@@ -7,7 +7,7 @@ use prepare::Prepared;
 use rules::Form;
 
 // The lines of all roots after `answers`; those of one id and sign (0 for +), which are plain; or recheck's text.
-#[derive(Drop)]
+#[derive(Clone, Copy)]
 pub enum Asked {
     All(Form),
     Root(u32, u32),

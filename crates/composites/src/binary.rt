@@ -13,14 +13,14 @@ use simplify::{intersections, unions};
 use storage::given::Canon;
 
 // Which try of an intersection: the first, or the second with the first member of the first.
-#[derive(Drop)]
+#[derive(Clone, Copy)]
 pub enum Try {
     First,
     Again(Found),
 }
 
 // An intersection tried: a node, a contradiction with the first member of all, or a refusal.
-#[derive(Drop)]
+#[derive(Clone, Copy)]
 pub enum Tried {
     Node(u32, Pass),
     Contradiction(Found, Pass),

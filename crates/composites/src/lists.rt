@@ -13,7 +13,7 @@ use simplify::unions;
 use storage::given::Canon;
 
 // A list settled: a node, nothing left of it beside its first member before filtering, or a refusal.
-#[derive(Drop)]
+#[derive(Clone, Copy)]
 pub enum Settled {
     Node(u32, Pass),
     Empty(Found, Pass),

@@ -44,7 +44,7 @@ fn part_at(s: &[u8], a: usize) -> Part
 }
 
 // A record: where what is given begins and ends, and where the answer does.
-#[derive(Drop)]
+#[derive(Clone, Copy)]
 struct Record {
     from: usize,
     mid: usize,
@@ -107,7 +107,7 @@ fn holds(number: u64, s: &[u8], a: usize, r: Record) -> bool
 }
 
 // How many examples were tried, and how many of them differ.
-#[derive(Drop)]
+#[derive(Clone, Copy)]
 struct Tally {
     tried: u64,
     differ: u64,

@@ -46,7 +46,7 @@ fn has_member(arena: &[u32], u: u32, x: u32) -> bool
 }
 
 // Which members of a union are picked, beside a list: those that all but its first have, or those that are not in it.
-#[derive(Drop)]
+#[derive(Clone, Copy)]
 enum Wanted {
     InAllOthers,
     NotAmong,
@@ -139,7 +139,7 @@ fn is_behind(arena: &[u32], y: u32, x: u32) -> bool
 }
 
 // The cells from low on, up to high.
-#[derive(Drop)]
+#[derive(Clone, Copy)]
 struct Span {
     low: u32,
     high: u32,

@@ -404,7 +404,7 @@ fn retry(
     retried(arena, t)
 }
 
-#[derive(Drop)]
+#[derive(Clone, Copy)]
 pub enum RootAnswer {
     Shown(Shown),
     Refused(u32),

@@ -61,7 +61,7 @@ pub fn child(arena: &[u32], x: u32, i: u32) -> u32
     attrset::dyn_type(arena, a)
 }
 
-#[derive(Drop)]
+#[derive(Clone, Copy)]
 pub enum Order {
     Less,
     Equal,
@@ -69,7 +69,7 @@ pub enum Order {
 }
 
 // What two nodes are compared by, one after another: a list's end comes before anything that goes on.
-#[derive(Drop)]
+#[derive(Clone, Copy)]
 enum Item {
     End,
     Num(u32),

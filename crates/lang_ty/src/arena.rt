@@ -9,7 +9,7 @@ use cells::{add, at, get, place, put, set};
 use layout::ArenaSlice;
 
 // The kinds, in OutputTy's order.
-#[derive(Drop)]
+#[derive(Clone, Copy)]
 pub struct OutputTy {}
 
 impl OutputTy {
@@ -37,7 +37,7 @@ impl OutputTy {
 }
 
 // What a pass counts: nodes, their cells, operations; and its marks.
-#[derive(Drop)]
+#[derive(Clone, Copy)]
 pub struct Pass {
     pub nodes: u32,
     pub cells: u32,
@@ -55,14 +55,14 @@ impl Pass {
 }
 
 // A node with the pass after it, or the number of a refusal.
-#[derive(Drop)]
+#[derive(Clone, Copy)]
 pub enum Given {
     Node(u32, Pass),
     Refused(u32),
 }
 
 // What a root is answered with: passes, operations of both, the sorted mark of either, the bailed mark of either, and the node.
-#[derive(Drop)]
+#[derive(Clone, Copy)]
 pub struct Shown {
     pub passes: u32,
     pub ops: u32,
@@ -71,7 +71,7 @@ pub struct Shown {
     pub node: u32,
 }
 
-#[derive(Drop)]
+#[derive(Clone, Copy)]
 pub enum Found {
     At(u32),
     Nowhere,

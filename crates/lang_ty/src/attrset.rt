@@ -66,7 +66,7 @@ pub fn optionals(words: &[u32], a: u32) -> u32
 }
 
 // Keys of a list that are left to be looked at: so many, from a place on. Fields' keys stand two words apart, optional keys one.
-#[derive(Drop)]
+#[derive(Clone, Copy)]
 pub struct Keys {
     pub at: u32,
     pub left: u32,
@@ -138,7 +138,7 @@ pub fn has_field(words: &[u32], a: u32, k: u32) -> bool
 }
 
 // A walk along the keys of two sets: what is left of the one's optional keys and of the other's keys, and whether the last key was among either.
-#[derive(Drop)]
+#[derive(Clone, Copy)]
 struct Walk {
     optional: Keys,
     other: Keys,

@@ -7,7 +7,7 @@ ghost use Rattle.layout.specs.Layout.{area_length, heads_at, negated_at, TableSt
 
 // A table that was read: for each entry its representative, whether it is marked, and whether the pass preserves it; then where each line's
 // row begins, and the rows. A row's beginning is a place of the slice.
-#[derive(Drop)]
+#[derive(Clone, Copy)]
 pub struct TableSlice {}
 
 impl TableSlice {
@@ -25,7 +25,7 @@ impl TableSlice {
 // The nodes of a pass: where each node's row begins, and where the last ends; the store's index; then the rows. In the index NEWEST has for each
 // bucket the place of its newest node's link, or 0, and EARLIER has the links: for each node the place of the link of the newest before it of the
 // same bucket, or 0. HASHES has the hash of each node's row.
-#[derive(Drop)]
+#[derive(Clone, Copy)]
 pub struct ArenaSlice {}
 
 impl ArenaSlice {
@@ -46,7 +46,7 @@ impl ArenaSlice {
 
 // What a pass works with: a key for each id and polarity, polarity bits, marks of ids seen, a negation's counters, for each node what a negation
 // remembers of it, and lists held on the way.
-#[derive(Drop)]
+#[derive(Clone, Copy)]
 pub struct WorkSlice {}
 
 impl WorkSlice {
@@ -68,7 +68,7 @@ impl WorkSlice {
 }
 
 // The same slice while a root's lines are written: each node's number in the listing and 1, and from ORDER on the nodes by their numbers.
-#[derive(Drop)]
+#[derive(Clone, Copy)]
 pub struct WalkSlice {}
 
 impl WalkSlice {
@@ -78,7 +78,7 @@ impl WalkSlice {
 // The same slice before any run, while recheck looks for the roots that an edit reaches. A link goes from an entry to an id that stands in it.
 // Links are numbered from 1, so 0 is none: HEAD has the last link to each entry, NEXT the link to the same entry before it, FROM the entry that
 // it goes from. MARKS and QUEUE have the entries that are reached.
-#[derive(Drop)]
+#[derive(Clone, Copy)]
 pub struct LinkSlice {}
 
 impl LinkSlice {
@@ -95,7 +95,7 @@ impl LinkSlice {
 
 // The old table in recheck has no facts. In their place lie the places where each root's old lines begin, and where the last ends; then 1 for
 // each root that is redone.
-#[derive(Drop)]
+#[derive(Clone, Copy)]
 pub struct SpanSlice {}
 
 impl SpanSlice {
@@ -103,7 +103,7 @@ impl SpanSlice {
 }
 
 // The text, until it is known to fit the output.
-#[derive(Drop)]
+#[derive(Clone, Copy)]
 pub struct DraftSlice {}
 
 impl DraftSlice {

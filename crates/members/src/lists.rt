@@ -10,27 +10,27 @@ use lang_ty::arena::{Given, OutputTy, Pass};
 use lang_ty::{arena, disjoint};
 
 // The first count cells of at; a count above 128 says that there are more than fit.
-#[derive(Drop)]
+#[derive(Clone, Copy)]
 pub struct Members {
     pub count: u32,
     pub at: [u32; 128],
 }
 
 // A step's pass, or the number of a refusal.
-#[derive(Drop)]
+#[derive(Clone, Copy)]
 pub enum Flow {
     On(Pass),
     Refused(u32),
 }
 
-#[derive(Drop)]
+#[derive(Clone, Copy)]
 pub struct Listed {
     pub flow: Flow,
     pub members: Members,
 }
 
 // No member, one, or a refusal.
-#[derive(Drop)]
+#[derive(Clone, Copy)]
 pub enum AtMostOne {
     Nothing(Pass),
     One(u32, Pass),
@@ -165,7 +165,7 @@ pub fn sole(arena: &mut [u32], q: Pass, kind: u32, m: Members) -> AtMostOne
 }
 
 // A list that has grown to a count, with the pass; or a refusal.
-#[derive(Drop)]
+#[derive(Clone, Copy)]
 pub enum Grown {
     On(u32, Pass),
     Refused(u32),

@@ -16,7 +16,7 @@ use layout::WorkSlice;
 use members::lists::{Flow, Listed, Members, of_kind, refused, with_last};
 
 // What sets come to so far: fields held at a place, and a dyn or none.
-#[derive(Drop)]
+#[derive(Clone, Copy)]
 struct Merging {
     fields: u32,
     area: u32,
@@ -24,7 +24,7 @@ struct Merging {
     dyn_type: u32,
 }
 
-#[derive(Drop)]
+#[derive(Clone, Copy)]
 enum Merged {
     On(Merging, Pass),
     Refused(u32),
@@ -64,7 +64,7 @@ fn held_type(held: &[u32], a: u32, i: u32) -> u32
 }
 
 // Which of two ordered lists has the next key: the old, the new, or both.
-#[derive(Drop)]
+#[derive(Clone, Copy)]
 enum Next {
     Old,
     New,
@@ -352,7 +352,7 @@ fn list_keys(held: &mut [u32], a: u32, n: u32, b: u32)
 }
 
 // A walk along keys that ascend: what is left of a set's fields and of its optional keys, and whether the last key stays.
-#[derive(Drop)]
+#[derive(Clone, Copy)]
 struct Sieve {
     fields: Keys,
     optional: Keys,

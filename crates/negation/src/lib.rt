@@ -11,7 +11,7 @@ use layout::WorkSlice;
 
 // What was negated comes to a node. Its counts of nodes and cells lie in the working slice: a negation can be thousands of levels deep, and a
 // level keeps as little as it can.
-#[derive(Drop)]
+#[derive(Clone, Copy)]
 enum Negated {
     Node(u32),
     Refused(u32),

@@ -16,7 +16,7 @@ use table::{Table, ranges, rows};
 use text::kinds::{HEADS, NODES};
 use text::{Got, Num, kinds};
 
-#[derive(Drop)]
+#[derive(Clone, Copy)]
 pub enum Old {
     InForm,
     // the earliest line at fault
@@ -24,7 +24,7 @@ pub enum Old {
 }
 
 // Where the next line begins, and its number; or the line at fault.
-#[derive(Drop)]
+#[derive(Clone, Copy)]
 pub enum Reached {
     At(usize, u32),
     Fault(u32),

@@ -7,7 +7,7 @@ use cells::{wipe, wipe_bytes};
 use layout::{DraftSlice, TableSlice, WorkSlice};
 
 // So many bytes written, or a refusal with number and line.
-#[derive(Drop)]
+#[derive(Clone, Copy)]
 pub enum Outcome {
     Written(u32),
     Refused(u32, u32),

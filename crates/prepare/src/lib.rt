@@ -10,7 +10,7 @@ use storage::given::Canon;
 use table::Table;
 
 // A table ready to run: what its passes are given, the place where the first root's beginning stands, and how many roots there are.
-#[derive(Drop)]
+#[derive(Clone, Copy)]
 pub struct Prepared {
     pub canon: Canon,
     pub first: u32,

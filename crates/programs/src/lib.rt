@@ -66,7 +66,7 @@ pub fn shown(outcome: Outcome, out: &mut [u8]) -> u32
 }
 
 // A part of an input: the bytes from one place up to another.
-#[derive(Drop)]
+#[derive(Clone, Copy)]
 pub struct Part {
     pub from: usize,
     pub to: usize,

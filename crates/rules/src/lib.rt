@@ -5,13 +5,13 @@ ghost use Rattle.std.specs.Prelude.{◌≡◌};
 ghost use Rattle.rules.specs.Types as types;
 
 // How a listing shows its variables: by the numbers that the table gives them, or numbered for each root from 0 on.
-#[derive(Drop)]
+#[derive(Clone, Copy)]
 pub enum Form {
     Plain,
     Numbered,
 }
 
-#[derive(Drop)]
+#[derive(Clone, Copy)]
 pub enum Polarity {
     Positive,
     Negative,

@@ -9,7 +9,7 @@ use lang_ty::arena::OutputTy;
 use members::lists::{Members, is_concrete, is_positive, keep_if, members_of};
 
 // The members that are kept.
-#[derive(Drop)]
+#[derive(Clone, Copy)]
 pub enum Sieve {
     Needed(u32),
     Positive,
@@ -17,7 +17,7 @@ pub enum Sieve {
 }
 
 // The members that are looked for.
-#[derive(Drop)]
+#[derive(Clone, Copy)]
 pub enum MemberTest {
     Concrete,
     Subsumed,

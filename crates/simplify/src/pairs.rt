@@ -9,7 +9,7 @@ use lang_ty::{arena, disjoint, primitive};
 use members::lists::is_concrete;
 
 // What is asked of a node and a member. The number is that of the name `__functor`.
-#[derive(Drop)]
+#[derive(Clone, Copy)]
 pub enum PairTest {
     Overlap(u32),
     Disjoint(u32),

@@ -7,7 +7,7 @@ use lang_ty::arena::Found;
 use rules::Polarity;
 
 // TypeEntry and Ty. A variable's and a set's lists stand in the row, from the place given on.
-#[derive(Drop)]
+#[derive(Clone, Copy)]
 pub enum Entry {
     Variable(u32),
     Primitive(u32),
@@ -23,7 +23,7 @@ pub enum Entry {
 }
 
 // The numbers of the kinds of entries.
-#[derive(Drop)]
+#[derive(Clone, Copy)]
 pub struct EntryKind {}
 
 impl EntryKind {

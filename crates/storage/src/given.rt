@@ -1,7 +1,7 @@
 // What a pass is given besides lent slices: the entry count, the place that tells where the first entry's row
 // begins, the budget, the operations of the pass before
 // it, and the number of the name `__functor`.
-#[derive(Drop)]
+#[derive(Clone, Copy)]
 pub struct Canon {
     pub count: u32,
     pub base: u32,

@@ -13,7 +13,7 @@ use layout::{TableSlice, WorkSlice};
 use rules::Polarity;
 
 // Which bounds of a list are expanded.
-#[derive(Drop)]
+#[derive(Clone, Copy)]
 pub enum Which {
     All,
     Concrete,
@@ -22,7 +22,7 @@ pub enum Which {
 }
 
 // What a variable's own rule begins with: itself, or so many bounds held, beside which it stays if it is preserved.
-#[derive(Drop)]
+#[derive(Clone, Copy)]
 pub enum Own {
     Variable,
     Bounds(u32, bool),

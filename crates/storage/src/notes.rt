@@ -11,7 +11,7 @@ use layout::WorkSlice;
 use rules::Polarity;
 
 // PolarityBits: bit 0 positive, bit 1 negative.
-#[derive(Drop)]
+#[derive(Clone, Copy)]
 pub struct PolarityBits {
     pub bits: u32,
 }
@@ -107,7 +107,7 @@ pub fn bail(q: Pass) -> Pass
 }
 
 // Which lists of a chain fallbacks began after the bail.
-#[derive(Drop)]
+#[derive(Clone, Copy)]
 pub struct Begun {
     pub lower: bool,
     pub upper: bool,

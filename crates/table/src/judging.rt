@@ -13,7 +13,7 @@ use text::kinds::TABLE;
 use text::{Got, kinds};
 
 // What was read so far: the section that a line may still be of (0 before the budget line), the rows, where the last ends.
-#[derive(Drop)]
+#[derive(Clone, Copy)]
 pub struct Progress {
     pub stage: u32,
     pub lines: usize,
@@ -23,7 +23,7 @@ pub struct Progress {
 }
 
 // What is said of a line.
-#[derive(Drop)]
+#[derive(Clone, Copy)]
 pub enum Verdict {
     Taken(Progress),
     Fault(u32),

@@ -11,7 +11,7 @@ ghost use Rattle.layout.specs.Layout.{table_length};
 ghost use Rattle.table.specs.Rows.{ReadInto};
 
 // How many rows each section has. Row 0 is the budget line, and the sections follow in their order.
-#[derive(Drop)]
+#[derive(Clone, Copy)]
 pub struct Table {
     pub names: usize,
     pub entries: usize,
@@ -38,7 +38,7 @@ impl Table {
     pub const ROOTS: usize = 64;
 }
 
-#[derive(Drop)]
+#[derive(Clone, Copy)]
 pub enum Answer {
     Accepted(Table),
     // number and line

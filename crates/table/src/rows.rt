@@ -95,7 +95,7 @@ pub fn before(words: &[u32], a: usize, m: usize, b: usize, t: usize) -> bool
 }
 
 // Where the parts of a set's row stand, and how long its lists are; its dyn is a list of at most one.
-#[derive(Drop)]
+#[derive(Clone, Copy)]
 pub struct Places {
     pub fields: usize,
     pub dynamic: usize,

@@ -8,7 +8,6 @@ use mathlib.Core.List.{List, [], ◌∷◌, ◌++◌}
 use lib.ListN.{length, take, length-take, drop_of_length-le}
 use lib.Seq.{slice-cons}
 use lib.Dec.{eqb}
-use Rattle.bytes.specs.Bytes.{slice, index_of, index_after}
 use borrow.Author.Tests.{eqb-true, eqb-false, lt-ltb, le-ltb, eq-eqb, ne_eqb}
 use Rattle.cells.specs.Part.{cell, if}
 use Rattle.cells.proofs.Parts.{eq_list_same, eq_list_other, eq_list_longer}
@@ -102,7 +101,7 @@ record Seeking (s : List ℕ) (from to sep i : ℕ) : Type 0 where
   pub is : pieces sep (span s from to) ≡ cut sep (span s from i) (span s i to)
 
 module _ {s : List ℕ} {from to sep : ℕ} where
-  seek_start : from ≤ to → Seeking s from to sep from
+  pub seek_start : from ≤ to → Seeking s from to sep from
   unfolding pieces
   seek_start h = record { low = omega arith; high = h; is = ap (λ (l : List ℕ). cut sep l (span s from to)) (sym (span_none s from from (omega arith))) }
 
@@ -110,14 +109,14 @@ module _ {s : List ℕ} {from to sep : ℕ} where
     turn : i < to → pieces sep (span s from to) ≡ cut sep (span s from i) (cell s i ∷ span s (i + 1) to)
     turn h = inv.is ∙ ap (cut sep (span s from i)) (span_next s i to h)
 
-    seek_more : i < to → (cell s i ≡ sep → ⊥) → Seeking s from to sep (i + 1)
+    pub seek_more : i < to → (cell s i ≡ sep → ⊥) → Seeking s from to sep (i + 1)
     seek_more h e = record {
       low = omega (arith, inv.low);
       high = omega arith;
       is = turn h ∙ simp (ne_eqb (cell s i) sep e) (ap (λ (l : List ℕ). cut sep l (span s (i + 1) to)) (sym (span_snoc s from i inv.low)));
     }
 
-    seek_found : i < to → cell s i ≡ sep → Seek s from to sep i
+    pub seek_found : i < to → cell s i ≡ sep → Seek s from to sep i
     unfolding pieces
     seek_found h e = record {
       low = inv.low;
@@ -127,7 +126,7 @@ module _ {s : List ℕ} {from to sep : ℕ} where
       last = λ q. absurd (let z : ⊥ = omega arith in z);
     }
 
-    seek_none : to ≤ i → Seek s from to sep i
+    pub seek_none : to ≤ i → Seek s from to sep i
     seek_none h = record {
       low = inv.low;
       high = inv.high;
@@ -135,23 +134,6 @@ module _ {s : List ℕ} {from to sep : ℕ} where
       here = λ q. absurd (let z : ⊥ = omega arith in z);
       last = λ _. inv.is ∙ ap (cut sep (span s from i)) (span_none s i to h);
     }
-
-    -- k more bytes up to it, if it does not stand here
-    index : (b : Bool) (k : ℕ) → eqb (cell s i) sep ≡ b → i < to → (Seeking s from to sep (i + 1) → Seek s from to sep (i + 1 + k)) → Seek s from to sep (i + index_after b k)
-    unfolding index_after
-    index true k e h f = subst (Seek s from to sep) (omega arith) (seek_found h (eqb-true (cell s i) sep e))
-    index false k e h f = subst (Seek s from to sep) (omega arith) (f (seek_more h (eqb-false (cell s i) sep e)))
-
-  -- so too for the library's index
-  search_from : (n i : ℕ) → i + n ≡ to → to ≤ length s → Seeking s from to sep i → Seek s from to sep (i + index_of sep (slice i to s))
-  unfolding slice index_of
-  search_from zero i e h inv = rw (drop_of_length-le (take to s) {i = i} (simp length-take (omega arith))) (subst (Seek s from to sep) (omega arith) (seek_none inv (omega arith)))
-  search_from (suc n) i e h inv =
-      let lt : i < to = omega arith in
-      rw (slice-cons i to s 0 lt h) (index inv (eqb (cell s i) sep) (index_of sep (slice (suc i) to s)) refl lt (rw add-one (search_from n (suc i) (omega arith) h)))
-
-  pub seek_at : {r : ℕ} → r ≡ from + index_of sep (slice from to s) → from ≤ to → to ≤ length s → Seek s from to sep r
-  seek_at e h k = rw e (search_from (to - from) from (omega arith) k (seek_start h))
 
 -- a number is of some bytes
 pub number_some : {s : List ℕ} {from to v : ℕ} {r : Num} → Number s from to r → r ≡ Is v → (to ≤ from → ⊥)

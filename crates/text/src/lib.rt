@@ -8,21 +8,21 @@ ghost use Rattle.text.specs.Reads.{Digit, Digits, Number, Word, Seek, Hex, Escap
 ghost use Rattle.text.specs.Reads.{Dyned, Signed, Named, Field, Shaped};
 ghost use Rattle.text.specs.Keywords.{Slot, shape_at};
 
-#[derive(Drop)]
+#[derive(Clone, Copy)]
 pub enum Num {
     No,
     Is(u32),
 }
 
 // What was written ends at To.
-#[derive(Drop)]
+#[derive(Clone, Copy)]
 pub enum Got {
     Bad,
     To(usize),
 }
 
 // What a byte of a written name does: it is out of place, it goes on to another state, or it ends a byte of the name.
-#[derive(Drop)]
+#[derive(Clone, Copy)]
 pub enum Step {
     Wrong,
     Move(u32),
@@ -100,7 +100,14 @@ pub fn seek(s: &[u8], from: usize, to: usize, sep: u8) -> usize
     requires { (from ≤ to) × (to ≤ length s.now) }
     ensures { Seek s.now from to sep result }
 {
-    bytes::scan::find(s, from, to, sep)
+    let mut i = from;
+    while i < to {
+        if s[i] == sep {
+            return i;
+        }
+        i += 1;
+    }
+    to
 }
 
 // Whether b alone stands between from and to.
