@@ -95,7 +95,7 @@ cut_some P f sep got [] = f got []
 cut_some P f sep got (b ∷ bs) = cut_if P (got ∷ cut sep [] bs) (cut sep (got ++ (b ∷ [])) bs) (eqb b sep) (f got (cut sep [] bs)) (cut_some P f sep (got ++ (b ∷ [])) bs)
 
 -- the search: what was passed is the piece so far
-record Seeking (s : List ℕ) (from to sep i : ℕ) : Type 0 where
+pub record Seeking (s : List ℕ) (from to sep i : ℕ) : Type 0 where
   pub low : from ≤ i
   pub high : i ≤ to
   pub is : pieces sep (span s from to) ≡ cut sep (span s from i) (span s i to)

@@ -5,7 +5,7 @@ pub loop-u-init : goal.loop-u-init
 loop-u-init c = search elements_start
 
 pub element_of-requires : goal.element_of-requires
-element_of-requires c κs = search elements_room
+element_of-requires c = search elements_room
 
 pub returns-in-Bad : goal.returns-in-Bad
 returns-in-Bad c = search elements_bad

@@ -8,7 +8,7 @@ pub returns-then-to-i : goal.returns-then-to-i
 returns-then-to-i c = search shape_few
 
 pub field_of-requires : goal.field_of-requires
-field_of-requires c κs = search shape_room
+field_of-requires c = search shape_room
 
 pub returns-in-Bad : goal.returns-in-Bad
 returns-in-Bad c = search shape_no

@@ -6,7 +6,7 @@ pub returns-then-mark : goal.returns-then-mark
 returns-then-mark c = search list_dash
 
 pub elements_of-requires : goal.elements_of-requires
-elements_of-requires c κs = search list_room
+elements_of-requires c = search list_room
 
 pub overflow_sub-words : goal.overflow_sub-words
 overflow_sub-words c = search list_low

@@ -6,7 +6,7 @@ pub loop-i-init : goal.loop-i-init
 loop-i-init c = search look_start
 
 pub keyword-requires : goal.keyword-requires
-keyword-requires c = (search rules, search slot_at)
+keyword-requires c = record { from_le_to = search rules; slot = search slot_at }
 
 pub returns-then-keyword : goal.returns-then-keyword
 returns-then-keyword c = search look_found

@@ -7,7 +7,7 @@ pub returns-in_default : goal.returns-in_default
 returns-in_default c = search row_none
 
 pub fields_of-requires : goal.fields_of-requires
-fields_of-requires c = (search rules, search row_slot)
+fields_of-requires c = record { shape_room = search rules; slot = search row_slot }
 
 pub returns : goal.returns
 returns c = search row_some
