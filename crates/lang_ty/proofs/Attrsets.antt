@@ -108,8 +108,8 @@ reach_most step a zero = omega arith
 reach_most step a (suc n) = omega (arith, reach_most step (a + step) n)
 
 apart_keys : {w : List ℕ} {a : ℕ} (fs : List Field) → Holds w a (field_words fs) → apart w 2 a (length fs) ≡ field_keys fs
-apart_keys [] h = refl
-apart_keys (f ∷ fs) h = ap₂ {C = List ℕ} ◌∷◌ (holds_head h) (apart_keys fs (holds_place (omega arith) (holds_tail (holds_tail h))))
+apart_keys {w = w} {a = a} [] h = refl
+apart_keys {w = w} {a = a} (f ∷ fs) h = ap₂ {C = List ℕ} ◌∷◌ (holds_head h) (apart_keys {a = a + 2} fs (holds_place (omega arith) (holds_tail (holds_tail h))))
 
 pub apart_part : (w : List ℕ) (a n : ℕ) → apart w 1 a n ≡ part w a n
 apart_part w a zero = refl

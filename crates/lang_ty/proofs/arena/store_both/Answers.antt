@@ -1,0 +1,5 @@
+use Rattle.lang_ty.proofs.Rows.{stored_four}
+use Rattle.lang_ty.proofs.arena.store_both.Goals as goal
+
+pub returns : goal.returns
+returns c = search stored_four

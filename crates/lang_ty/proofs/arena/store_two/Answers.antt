@@ -1,0 +1,5 @@
+use Rattle.lang_ty.proofs.Rows.{stored_three}
+use Rattle.lang_ty.proofs.arena.store_two.Goals as goal
+
+pub returns : goal.returns
+returns c = search stored_three
