@@ -295,21 +295,18 @@ module _ {table work : List ℕ} {h : ℕ} {e : Entry} where
         }
 
 -- the polarity of the first child
-abbrev straight : List ℕ
-straight = 0 ∷ 1 ∷ 2 ∷ 3 ∷ 5 ∷ 7 ∷ 8 ∷ 9 ∷ 10 ∷ []
-
-stays : {w : List ℕ} {en : rules.Entry} (e : Entry) (pol : Polarity) → OneOf straight (tag_of the_type e) → ReadAs w e en → first_polarity en pol ≡ pol
-stays (Variable v) pol o read = ap (λ (x : rules.Entry). first_polarity x pol) read.is.is
-stays (Primitive x) pol o read = ap (λ (x : rules.Entry). first_polarity x pol) read.is
-stays (TyVar x) pol o read = ap (λ (x : rules.Entry). first_polarity x pol) read.is
-stays (ListOf a) pol o read = ap (λ (x : rules.Entry). first_polarity x pol) read.is
-stays (Lambda a b) pol o read = absurd (miss straight 4 tt o)
-stays (AttrSet a) pol o read = ap (λ (x : rules.Entry). first_polarity x pol) read.is.is
-stays (Neg a) pol o read = absurd (miss straight 6 tt o)
-stays (Named n a) pol o read = ap (λ (x : rules.Entry). first_polarity x pol) read.is
-stays (Inter a b) pol o read = ap (λ (x : rules.Entry). first_polarity x pol) read.is
-stays (Union a b) pol o read = ap (λ (x : rules.Entry). first_polarity x pol) read.is
-stays Frozen pol o read = ap (λ (x : rules.Entry). first_polarity x pol) read.is
+stays : {w : List ℕ} {en : rules.Entry} (e : Entry) (pol : Polarity) → ((a b : ℕ) → e ≡ Lambda a b → ⊥) → ((a : ℕ) → e ≡ Neg a → ⊥) → ReadAs w e en → first_polarity en pol ≡ pol
+stays (Variable v) pol no_lambda no_neg read = ap (λ (x : rules.Entry). first_polarity x pol) read.is.is
+stays (Primitive x) pol no_lambda no_neg read = ap (λ (x : rules.Entry). first_polarity x pol) read.is
+stays (TyVar x) pol no_lambda no_neg read = ap (λ (x : rules.Entry). first_polarity x pol) read.is
+stays (ListOf a) pol no_lambda no_neg read = ap (λ (x : rules.Entry). first_polarity x pol) read.is
+stays (Lambda a b) pol no_lambda no_neg read = absurd (no_lambda a b refl)
+stays (AttrSet a) pol no_lambda no_neg read = ap (λ (x : rules.Entry). first_polarity x pol) read.is.is
+stays (Neg a) pol no_lambda no_neg read = absurd (no_neg a refl)
+stays (Named n a) pol no_lambda no_neg read = ap (λ (x : rules.Entry). first_polarity x pol) read.is
+stays (Inter a b) pol no_lambda no_neg read = ap (λ (x : rules.Entry). first_polarity x pol) read.is
+stays (Union a b) pol no_lambda no_neg read = ap (λ (x : rules.Entry). first_polarity x pol) read.is
+stays Frozen pol no_lambda no_neg read = ap (λ (x : rules.Entry). first_polarity x pol) read.is
 
 module _ {e : Entry} {pol : Polarity} where
   pub polarity_lambda : {a b : ℕ} {r : Polarity} → e ≡ Lambda a b → r ≡ flip pol → FirstPolarity e pol r
@@ -318,5 +315,5 @@ module _ {e : Entry} {pol : Polarity} where
   pub polarity_neg : {a : ℕ} {r : Polarity} → e ≡ Neg a → r ≡ flip pol → FirstPolarity e pol r
   polarity_neg {a} q f = record { is = λ read. f ∙ sym (ap (λ (x : rules.Entry). first_polarity x pol) (read_as (Neg a) q read).is) }
 
-  pub polarity_same : OneOf straight (tag_of the_type e) → FirstPolarity e pol pol
-  polarity_same o = record { is = λ read. sym (stays e pol o read) }
+  pub polarity_same : ((a b : ℕ) → e ≡ Lambda a b → ⊥) → ((a : ℕ) → e ≡ Neg a → ⊥) → FirstPolarity e pol pol
+  polarity_same no_lambda no_neg = record { is = λ read. sym (stays e pol no_lambda no_neg read) }
