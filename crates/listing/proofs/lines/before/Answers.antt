@@ -1,0 +1,8 @@
+use Rattle.listing.proofs.Listings.{parted_first, parted_later}
+use Rattle.listing.proofs.lines.before.Goals as goal
+
+pub returns-then-i-eq0 : goal.returns-then-i-eq0
+returns-then-i-eq0 c = search parted_first
+
+pub returns : goal.returns
+returns c = search parted_later
