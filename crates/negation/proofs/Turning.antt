@@ -586,7 +586,7 @@ module _ {w₀ held₀ w held : List ℕ} {h x i : ℕ} (inv : Negating w₀ hel
         refused_at q e zero top l t b mem = absurd (not-suc-le-zero l)
         refused_at {st} q {j} e (suc f) top l t b mem =
             let le : x ≤ f = omega arith in
-            let mid = inv.is f top le t b mem in
+            let mid = inv.is {q = q} f top le t b mem in
             let z = counted b mid inv.cells count in
             let node = node_at st.nodes x in
             let g = subst (λ (o : Negated). AnswersCounted (negate_by f m mid.now) mid.now w' q deep top held held' o) e (called f top le t b mid) in

@@ -16,8 +16,8 @@ returns-then-x-m t c = search negates_never
 pub loop-i-preserved : goal.loop-i-preserved
 loop-i-preserved t c =
     negating_more c.loop-i.invariant c.count-in-loop-i.ensures c.loop-i-test.true c.member-m.ensures c.if-x-m.false
-    c.count-in-loop-i-2.ensures c.add-deep.ensures c.negate.ensures c.y-1.given.1 c.negate.auto.0
-    c.negate.auto.1.0 c.place.ensures c.put.ensures
+    c.count-in-loop-i-2.ensures c.add-deep.ensures c.negate.ensures c.in-Node.is c.negate.auto.arena
+    c.negate.auto.held c.place.ensures c.put.ensures
 
 pub returns-in-Refused : goal.returns-in-Refused
 returns-in-Refused t c = search negates_refused
