@@ -1,0 +1,6 @@
+-- What is picked is the union without the list, and `sole` of it is what the rules add.
+use Rattle.factor.proofs.Factors.{remains_is}
+use Rattle.factor.proofs.remainder.Goals as goal
+
+pub returns : goal.returns
+returns c = search remains_is

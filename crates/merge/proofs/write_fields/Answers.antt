@@ -1,0 +1,6 @@
+-- Kind, count and fields stand one after another from t on, and the dyn follows them.
+use Rattle.merge.proofs.MergeStore.{writes_fields}
+use Rattle.merge.proofs.write_fields.Goals as goal
+
+pub returns : goal.returns
+returns c = search writes_fields
