@@ -251,12 +251,12 @@ module _ {table work₀ : List ℕ} {n x a step k : ℕ} where
 
 -- a list's ids stand one apart, the types of fields two
 apart_types : {w : List ℕ} {a : ℕ} (fs : List Field) → Holds w a (field_words fs) → apart w 2 (suc a) (length fs) ≡ field_types fs
-apart_types [] h = refl
-apart_types {w} {a} (f ∷ fs) h =
+apart_types {w = w} {a = a} [] h = refl
+apart_types {w = w} {a = a} (f ∷ fs) h =
     let z : suc (suc a) ≡ a + 2 = omega arith in
     let y : suc (a + 2) ≡ suc a + 2 = omega arith in
     ap₂ {C = List ℕ} ◌∷◌ (holds_head (holds_tail h))
-    (sym (ap (λ (b : ℕ). apart w 2 b (length fs)) y) ∙ apart_types fs (holds_place z (holds_tail (holds_tail h))))
+    (sym (ap (λ (b : ℕ). apart w 2 b (length fs)) y) ∙ apart_types {a = a + 2} fs (holds_place z (holds_tail (holds_tail h))))
 
 module _ {table work : List ℕ} {n x : ℕ} where
   pub list_is : {a b k r : ℕ} {work' : List ℕ} → Sum a 1 b → k ≡ cell table a → LinksEach table work n x b 1 k work' r → LinksList table work n x a work' r
