@@ -1,0 +1,5 @@
+use Rattle.composites.proofs.Settled.{union_of_is}
+use Rattle.composites.proofs.binary.union_of.Goals as goal
+
+pub returns : goal.returns
+returns c = search union_of_is
