@@ -444,6 +444,11 @@ module _ {table : List ℕ} {c : Canon} {work : List ℕ} {h : ℕ} {p : runs.Pa
   named_found : {v : ℕ} {r : Found} → NamedBound table c v r → BoundsAt table v l u → NamedIs c.count t (l ++ u) r
   named_found nb ba = nb.is po.knows.reads ba (under_front c.count l u bounds_under) (under_back c.count l u bounds_under)
 
+-- what stands nowhere else
+pub nowhere : (f : Found) → ((b : ℕ) → f ≡ At b → ⊥) → f ≡ Nowhere
+nowhere (At b) h = absurd (h b refl)
+nowhere Nowhere h = refl
+
 module _ {table : List ℕ} {c : Canon} {w work : List ℕ} {free h : ℕ} {q : Pass} {id v : ℕ} {pol : Polarity} {r : Given} where
   -- a Named bound
   pub inner_named : {f : Found} {b : ℕ} {w' work' : List ℕ} → NamedBound table c v f → f ≡ At b → Visits table c w work free h q b pol w' work' r

@@ -82,23 +82,21 @@ module _ (w work : List ℕ) (h : ℕ) (q : Pass) (w' work' : List ℕ) (r : Giv
       subst (λ (z : Out ℕ). StoredBy z w' work work' h r) (sym (ap (λ (x : Entry). bind o (made p pol x)) e ∙ ap (λ (z : Out (List ℕ)). bind z (made p pol y)) g.is)) (f g)
 
 -- `made_of_one`
-abbrev others : List ℕ
-others = 0 ∷ 4 ∷ 5 ∷ 8 ∷ 9 ∷ 10 ∷ []
-
 -- of the others a single entry is a variable, an intersection or frozen, of which nothing is made
-refused_one : {w₀ : List ℕ} {en : Entry} (x : Read) → OneOf others (tag_of the_type x) → ReadAs w₀ x en → Single en
+refused_one : {w₀ : List ℕ} {en : Entry} (x : Read) → ((a : ℕ) → x ≡ PrimitiveE a → ⊥) → ((a : ℕ) → x ≡ TyVarE a → ⊥) → ((a : ℕ) → x ≡ ListE a → ⊥) → ((a : ℕ) → x ≡ NegE a → ⊥) → ((n a : ℕ) → x ≡ NamedE n a → ⊥)
+    → ReadAs w₀ x en → Single en
     → (p : runs.Pass) (pol : Polarity) (xs : List ℕ) (st : State) → made p pol en xs st ≡ no 5
-refused_one (Variable v) m read one p pol xs st = ap (λ (y : Entry). made p pol y xs st) read.is.is
-refused_one (PrimitiveE a) m read one p pol xs st = absurd (miss others 1 tt m)
-refused_one (TyVarE a) m read one p pol xs st = absurd (miss others 2 tt m)
-refused_one (ListE a) m read one p pol xs st = absurd (miss others 3 tt m)
-refused_one (LambdaE a b) m read one p pol xs st = absurd (subst Single read.is one)
-refused_one (AttrSetE a) m read one p pol xs st = absurd (subst Single read.is.is one)
-refused_one (NegE a) m read one p pol xs st = absurd (miss others 6 tt m)
-refused_one (NamedE n a) m read one p pol xs st = absurd (miss others 7 tt m)
-refused_one (InterE a b) m read one p pol xs st = ap (λ (y : Entry). made p pol y xs st) read.is
-refused_one (UnionE a b) m read one p pol xs st = absurd (subst Single read.is one)
-refused_one FrozenE m read one p pol xs st = ap (λ (y : Entry). made p pol y xs st) read.is
+refused_one (Variable v) np nt nl nn nm read one p pol xs st = ap (λ (y : Entry). made p pol y xs st) read.is.is
+refused_one (PrimitiveE a) np nt nl nn nm read one p pol xs st = absurd (np a refl)
+refused_one (TyVarE a) np nt nl nn nm read one p pol xs st = absurd (nt a refl)
+refused_one (ListE a) np nt nl nn nm read one p pol xs st = absurd (nl a refl)
+refused_one (LambdaE a b) np nt nl nn nm read one p pol xs st = absurd (subst Single read.is one)
+refused_one (AttrSetE a) np nt nl nn nm read one p pol xs st = absurd (subst Single read.is.is one)
+refused_one (NegE a) np nt nl nn nm read one p pol xs st = absurd (nn a refl)
+refused_one (NamedE n a) np nt nl nn nm read one p pol xs st = absurd (nm n a refl)
+refused_one (InterE a b) np nt nl nn nm read one p pol xs st = ap (λ (y : Entry). made p pol y xs st) read.is
+refused_one (UnionE a b) np nt nl nn nm read one p pol xs st = absurd (subst Single read.is one)
+refused_one FrozenE np nt nl nn nm read one p pol xs st = ap (λ (y : Entry). made p pol y xs st) read.is
 
 module _ {table : List ℕ} {c : Canon} {w work : List ℕ} {h : ℕ} {q : Pass} {e : Read} where
   module _ {w' : List ℕ} {r : Given} where
@@ -144,29 +142,27 @@ module _ {table : List ℕ} {c : Canon} {w work : List ℕ} {h : ℕ} {q : Pass}
             (stored_negation (negate_output_ty x g.after) g.after w' h work work' r (ne.is (negatable g (answer_below g 0 (omega arith) y) b)))) vis;
       }
 
-  pub one_refused : OneOf others (tag_of the_type e) → MadeOfOne table c w work h q e w work (Refused 5)
-  one_refused m =
+  pub one_refused : ((a : ℕ) → e ≡ PrimitiveE a → ⊥) → ((a : ℕ) → e ≡ TyVarE a → ⊥) → ((a : ℕ) → e ≡ ListE a → ⊥) → ((a : ℕ) → e ≡ NegE a → ⊥) → ((n a : ℕ) → e ≡ NamedE n a → ⊥)
+      → MadeOfOne table c w work h q e w work (Refused 5)
+  one_refused np nt nl nn nm =
       record {
         is = λ {p = p} {en = en} o pol kn read one vis b.
-            let g = vis.is in ap (λ (z : Out (List ℕ)). bind z (made p pol en)) g.is ∙ refused_one e m read one p pol g.list g.after;
+            let g = vis.is in ap (λ (z : Out (List ℕ)). bind z (made p pol en)) g.is ∙ refused_one e np nt nl nn nm read one p pol g.list g.after;
       }
 
 -- `made`
-abbrev singles : List ℕ
-singles = 0 ∷ 1 ∷ 2 ∷ 3 ∷ 6 ∷ 7 ∷ 8 ∷ 10 ∷ []
-
-single_read : {w : List ℕ} {en : Entry} (e : Read) → OneOf singles (tag_of the_type e) → ReadAs w e en → Single en
-single_read (Variable v) o read = subst Single (sym read.is.is) tt
-single_read (PrimitiveE x) o read = subst Single (sym read.is) tt
-single_read (TyVarE x) o read = subst Single (sym read.is) tt
-single_read (ListE a) o read = subst Single (sym read.is) tt
-single_read (LambdaE a b) o read = absurd (miss singles 4 tt o)
-single_read (AttrSetE a) o read = absurd (miss singles 5 tt o)
-single_read (NegE a) o read = subst Single (sym read.is) tt
-single_read (NamedE n a) o read = subst Single (sym read.is) tt
-single_read (InterE a b) o read = subst Single (sym read.is) tt
-single_read (UnionE a b) o read = absurd (miss singles 9 tt o)
-single_read FrozenE o read = subst Single (sym read.is) tt
+single_read : {w : List ℕ} {en : Entry} (e : Read) → ((a b : ℕ) → e ≡ LambdaE a b → ⊥) → ((a : ℕ) → e ≡ AttrSetE a → ⊥) → ((a b : ℕ) → e ≡ UnionE a b → ⊥) → ReadAs w e en → Single en
+single_read (Variable v) nl na nu read = subst Single (sym read.is.is) tt
+single_read (PrimitiveE x) nl na nu read = subst Single (sym read.is) tt
+single_read (TyVarE x) nl na nu read = subst Single (sym read.is) tt
+single_read (ListE a) nl na nu read = subst Single (sym read.is) tt
+single_read (LambdaE a b) nl na nu read = absurd (nl a b refl)
+single_read (AttrSetE a) nl na nu read = absurd (na a refl)
+single_read (NegE a) nl na nu read = subst Single (sym read.is) tt
+single_read (NamedE n a) nl na nu read = subst Single (sym read.is) tt
+single_read (InterE a b) nl na nu read = subst Single (sym read.is) tt
+single_read (UnionE a b) nl na nu read = absurd (nu a b refl)
+single_read FrozenE nl na nu read = subst Single (sym read.is) tt
 
 flow_as : {o : Out (List ℕ)} {w work : List ℕ} {h n : ℕ} {f : Flow} (x : Flow) → f ≡ x → Visited o w work h n f → Visited o w work h n x
 flow_as {o} {w} {work} {h} {n} x e v = subst (λ (y : Flow). Visited o w work h n y) e v
@@ -205,13 +201,13 @@ module _ {table : List ℕ} {c : Canon} {w work : List ℕ} {h : ℕ} {f : Flow}
           is = λ {p = p} o kn read orderly vis br.
               let z : _ ≡ union a b = (read_as (UnionE a b) d read).is in
               subst (λ (en : Entry). StoredBy (bind o (made p pol en)) w' work work h r) (sym z)
-              (stored_by work h (un.is o (record { preserves = record { size = kn.count; is = kn.preserved }; functor = kn.functor })
+              (stored_by work h (un.is {p = p} o (record { preserves = record { size = kn.count; is = kn.preserved }; functor = kn.functor })
               (subst (λ (en : Entry). Visited o w work h (length (held_kids en)) (On q)) z (flow_as (On q) fl vis))));
         }
 
-  pub made_one : {q : Pass} {w' work' : List ℕ} {r : Given} → f ≡ On q → OneOf singles (tag_of the_type e) → MadeOfOne table c w work h q e w' work' r
+  pub made_one : {q : Pass} {w' work' : List ℕ} {r : Given} → f ≡ On q → ((a b : ℕ) → e ≡ LambdaE a b → ⊥) → ((a : ℕ) → e ≡ AttrSetE a → ⊥) → ((a b : ℕ) → e ≡ UnionE a b → ⊥) → MadeOfOne table c w work h q e w' work' r
       → Made table c w work h f e pol w' work' r
-  made_one {q} fl m one = record { is = λ o kn read orderly vis b. one.is o pol kn read (single_read e m read) (flow_as (On q) fl vis) b }
+  made_one {q} fl nl na nu one = record { is = λ o kn read orderly vis b. one.is o pol kn read (single_read e nl na nu read) (flow_as (On q) fl vis) b }
 
 -- `retried`
 module _ {w : List ℕ} {t : Tried} where

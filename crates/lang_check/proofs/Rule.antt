@@ -186,21 +186,18 @@ module _ {table : List ℕ} {c : Canon} {w work : List ℕ} {free h : ℕ} {q : 
             (ea.is (subst (λ (m : ℕ). Poised table c work1 h m p t st) (sym held.count) po1) on held u));
       }
 
-abbrev concretes : List ℕ
-concretes = 1 ∷ 2 ∷ 3 ∷ 4 ∷ 5 ∷ 6 ∷ 7 ∷ 9 ∷ 10 ∷ []
-
-concrete_read : {w : List ℕ} {en : Entry} (e : Read) → OneOf concretes (tag_of the_type e) → ReadAs w e en → Concrete en
-concrete_read (Variable v) o read = absurd (miss concretes 0 tt o)
-concrete_read (PrimitiveE x) o read = subst Concrete (sym read.is) tt
-concrete_read (TyVarE x) o read = subst Concrete (sym read.is) tt
-concrete_read (ListE a) o read = subst Concrete (sym read.is) tt
-concrete_read (LambdaE a b) o read = subst Concrete (sym read.is) tt
-concrete_read (AttrSetE a) o read = subst Concrete (sym read.is.is) tt
-concrete_read (NegE a) o read = subst Concrete (sym read.is) tt
-concrete_read (NamedE n a) o read = subst Concrete (sym read.is) tt
-concrete_read (InterE a b) o read = absurd (miss concretes 8 tt o)
-concrete_read (UnionE a b) o read = subst Concrete (sym read.is) tt
-concrete_read FrozenE o read = subst Concrete (sym read.is) tt
+concrete_read : {w : List ℕ} {en : Entry} (e : Read) → ((v : ℕ) → e ≡ Variable v → ⊥) → ((a b : ℕ) → e ≡ InterE a b → ⊥) → ReadAs w e en → Concrete en
+concrete_read (Variable v) nv ni read = absurd (nv v refl)
+concrete_read (PrimitiveE x) nv ni read = subst Concrete (sym read.is) tt
+concrete_read (TyVarE x) nv ni read = subst Concrete (sym read.is) tt
+concrete_read (ListE a) nv ni read = subst Concrete (sym read.is) tt
+concrete_read (LambdaE a b) nv ni read = subst Concrete (sym read.is) tt
+concrete_read (AttrSetE a) nv ni read = subst Concrete (sym read.is.is) tt
+concrete_read (NegE a) nv ni read = subst Concrete (sym read.is) tt
+concrete_read (NamedE n a) nv ni read = subst Concrete (sym read.is) tt
+concrete_read (InterE a b) nv ni read = absurd (ni a b refl)
+concrete_read (UnionE a b) nv ni read = subst Concrete (sym read.is) tt
+concrete_read FrozenE nv ni read = subst Concrete (sym read.is) tt
 
 module _ {table : List ℕ} {c : Canon} {w work : List ℕ} {free h : ℕ} {q : Pass} {id : ℕ} {pol : Polarity} {e : Read} (er : EntryRead table c id e) where
   module _ {w' work' : List ℕ} {r : Given} where
@@ -226,15 +223,15 @@ module _ {table : List ℕ} {c : Canon} {w work : List ℕ} {free h : ℕ} {q : 
         }
 
   -- any other entry
-  pub rules_made : {w2 work2 w3 work3 : List ℕ} {f : Flow} {r : Given} → OneOf concretes (tag_of the_type e) → Children table c w work free h q e pol w2 work2 f
+  pub rules_made : {w2 work2 w3 work3 : List ℕ} {f : Flow} {r : Given} → ((v : ℕ) → e ≡ Variable v → ⊥) → ((a b : ℕ) → e ≡ InterE a b → ⊥) → Children table c w work free h q e pol w2 work2 f
       → Made table c w2 work2 h f e pol w3 work3 r → length work2 ≡ length work → Rules table c w work free h q id pol w3 work3 r
-  rules_made {f = f} {r = r} d ch ma len =
+  rules_made {f = f} {r = r} nv ni ch ma len =
       record {
         is = λ {p} {t} {st} po on lt.
             let v : Visit = visit free p t in
             let en : Entry = t id in
             let read = er.is po.knows.reads lt in
-            let k = concrete_read e d read in
+            let k = concrete_read e nv ni read in
             let same = kids_held en k in
             let fits = po.roomed.fits in
             let long = po.roomed.long in
