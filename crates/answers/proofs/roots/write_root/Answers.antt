@@ -7,7 +7,7 @@ pub returns-in-Shown : goal.returns-in-Shown
 returns-in-Shown c =
     root_shown c.canonicalize.ensures c.polarity.ensures c.in-Shown.is c.canonicalize.auto.table c.canonicalize.auto.work
     (λ k. omega (arith, c.slice_known-6-1.given k))
-    (omega (arith, c.ranges.id), (omega (arith, c.ranges.sign), (omega (arith, c.known_told-1.given), (omega (arith, c.known_told-1.given), tt)))) c.root_lines.ensures
+    (omega (arith, c.ranges.id), (omega (arith, c.ranges.sign), (omega arith, (omega arith, tt)))) c.root_lines.ensures
 
 pub returns-in-Refused : goal.returns-in-Refused
 returns-in-Refused c = search root_refused
