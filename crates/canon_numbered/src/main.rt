@@ -1,13 +1,13 @@
 // canon_numbered: a table on standard input, its numbered listing on standard output.
 #![tactic(auto)]
 
-use libc::STDIN_FILENO;
 use rules::Form;
+use std::io;
 
-fn main() {
+fn main(rt: HostRuntime) -> io::Result<()> {
     let mut text = programs::text_room();
-    let n = io::read_full(STDIN_FILENO, &mut text);
-    let mut out = io::large_buffer();
+    let n = programs::read_room(&rt, &mut text)?;
+    let mut out = programs::out_room();
     let size = canon_call::program::answer_canon(Form::Numbered, &text[..n], &mut out);
-    programs::show(&out, size as usize);
+    programs::show(&rt, &out, size as usize)
 }

@@ -5,9 +5,9 @@
 ghost use Rattle.std.specs.Prelude.{◌≡◌, ◌<◌, ◌≤◌, length};
 ghost use Rattle.examples.specs.Records.{Ahead, Behind};
 
-use libc::{STDIN_FILENO, STDOUT_FILENO};
 use programs::Part;
 use rules::Form;
+use std::io;
 use text::Num;
 
 // Room for all records. An input that is longer is cut, and the count tells it.
@@ -86,24 +86,22 @@ fn run(head: &[u8], given: &[u8], out: &mut [u8]) -> u32 {
 }
 
 // Whether the call of a record prints its answer. Where it does not, the record's number and head are written, and what was printed.
-fn holds(number: u64, s: &[u8], a: usize, r: Record) -> bool
+fn holds(rt: &impl Print, number: u64, s: &[u8], a: usize, r: Record) -> io::Result<bool>
     requires { Ahead a (length s.now) r }
 {
     let from = r.from;
     let mid = r.mid;
     let start = r.start;
     let end = r.end;
-    let mut out = io::large_buffer();
+    let mut out = programs::out_room();
     let size = run(&s[a..from], &s[from..mid], &mut out) as usize;
     if programs::begins(&out, size, &s[start..end]) {
-        return true;
+        return Ok(true);
     }
-    io::write_all(STDOUT_FILENO, b"record ");
-    io::print_decimal(STDOUT_FILENO, number);
-    io::write_all(STDOUT_FILENO, b" differs: ");
-    io::write_all(STDOUT_FILENO, &s[a..from]);
-    programs::show(&out, size);
-    false
+    print!(rt; "record {number} differs: ")?;
+    programs::show(rt, &s[a..from], from - a)?;
+    programs::show(rt, &out, size)?;
+    Ok(false)
 }
 
 // How many examples were tried, and how many of them differ.
@@ -114,7 +112,7 @@ struct Tally {
 }
 
 // Tries each record of the input.
-fn try_all(input: &[u8]) -> Tally {
+fn try_all(rt: &impl Print, input: &[u8]) -> io::Result<Tally> {
     let n = input.len();
     let mut tried = 0u64;
     let mut differ = 0u64;
@@ -122,20 +120,17 @@ fn try_all(input: &[u8]) -> Tally {
     while a < n {
         let r = record_at(input, a);
         tried += 1;
-        if !holds(tried, input, a, r) {
+        if !holds(rt, tried, input, a, r)? {
             differ += 1;
         }
         a = r.end;
     }
-    Tally { tried, differ }
+    Ok(Tally { tried, differ })
 }
 
-fn main() {
+fn main(rt: HostRuntime) -> io::Result<()> {
     let mut input = room();
-    let n = io::read_full(STDIN_FILENO, &mut input);
-    let t = try_all(&input[..n]);
-    io::print_decimal(STDOUT_FILENO, t.tried);
-    io::write_all(STDOUT_FILENO, b" examples, ");
-    io::print_decimal(STDOUT_FILENO, t.differ);
-    io::write_all(STDOUT_FILENO, b" differ\n");
+    let n = programs::read_room(&rt, &mut input)?;
+    let t = try_all(&rt, &input[..n])?;
+    println!(rt; "{} examples, {} differ", t.tried, t.differ)
 }

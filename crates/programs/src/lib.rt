@@ -1,7 +1,7 @@
-// What the programs share beside the calls: scratch of full length, what is shown of an outcome, the parts of an input, and what is written.
+// What the programs share beside the calls: scratch of full length, what is shown of an outcome, the parts of an input, and what is read and written.
 #![tactic(auto)]
 
-ghost use Rattle.std.specs.Prelude.{◌≡◌, ◌≤◌, length};
+ghost use Rattle.std.specs.Prelude.{◌≡◌, ◌≤◌, length, IfOk};
 ghost use Rattle.layout.specs.Layout.{draft_length, table_length, arena_length, line_length, work_length};
 ghost use Rattle.programs.specs.Shows.{ShowsOutcome};
 ghost use Rattle.programs.specs.Parts.{Begins, IsNext, Behind, UntilNext};
@@ -9,6 +9,8 @@ ghost use Rattle.programs.specs.Parts.{Begins, IsNext, Behind, UntilNext};
 use layout::{ArenaSlice, DraftSlice, TableSlice, WorkSlice};
 use listing::lines;
 use outcomes::Outcome;
+use std::io;
+use std::io::{Read, Write};
 
 pub fn draft_room() -> [u8; DraftSlice::LENGTH]
     ensures { draft_length ≡ length result }
@@ -53,6 +55,29 @@ pub fn parts_room() -> [u8; 196619]
     ensures { 196619 ≡ length result }
 {
     [0u8; 196619]
+}
+
+// As many bytes as a text may have: what a program lends a call for its output.
+pub fn out_room() -> [u8; 65536]
+    ensures { 65536 ≡ length result }
+{
+    [0u8; 65536]
+}
+
+// Standard input read into a room, to its end or until the room is full: how many bytes came.
+pub fn read_room(rt: &impl Input, room: &mut [u8]) -> io::Result<usize>
+    ensures { IfOk result (λ n. n ≤ length room.new) }
+{
+    let mut input = rt.reader();
+    let mut n = 0;
+    while n < room.len() {
+        let more = input.read(&mut room[n..])?;
+        if more == 0 {
+            break;
+        }
+        n += more;
+    }
+    Ok(n)
 }
 
 // How many bytes of out are to be shown: the text that was written there, or the line `refused`.
@@ -115,10 +140,11 @@ pub fn behind(s: &[u8], to: usize) -> usize
 }
 
 // The first n bytes of a slice written to standard output, as far as it has them.
-pub fn show(s: &[u8], n: usize) {
+pub fn show(rt: &impl Print, s: &[u8], n: usize) -> io::Result<()> {
     if n <= s.len() {
-        io::write_all(libc::STDOUT_FILENO, &s[..n]);
+        io::writer(rt).write_all(&s[..n])?;
     }
+    Ok(())
 }
 
 // Whether the first n bytes of a slice are those of another.
