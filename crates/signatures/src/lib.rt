@@ -1,4 +1,5 @@
-// The public calls over byte slices for a Rust or C host: `answers` has what a call comes to, `canon_call` and `recheck_call` the calls.
+// The public calls over byte slices, their outcomes as numbers: `answers` has what a call comes to, `canon_call` and `recheck_call` the calls.
+// `signatures_c` exports them to a Rust or C host.
 #![tactic(auto)]
 
 ghost use Rattle.rules.specs.declared.Form.TheVariants.{Plain, Numbered};
@@ -20,8 +21,7 @@ pub fn code(outcome: Outcome) -> u64
     }
 }
 
-#[unsafe(no_mangle)]
-pub extern "C" fn pekonusit_canon(
+pub fn pekonusit_canon(
     text: &[u8],
     out: &mut [u8],
     draft: &mut [u8],
@@ -35,8 +35,7 @@ pub extern "C" fn pekonusit_canon(
     code(canon(text, out, draft, table, arena, work))
 }
 
-#[unsafe(no_mangle)]
-pub extern "C" fn pekonusit_canon_numbered(
+pub fn pekonusit_canon_numbered(
     text: &[u8],
     out: &mut [u8],
     draft: &mut [u8],
@@ -50,8 +49,7 @@ pub extern "C" fn pekonusit_canon_numbered(
     code(canon_numbered(text, out, draft, table, arena, work))
 }
 
-#[unsafe(no_mangle)]
-pub extern "C" fn pekonusit_canon_root(
+pub fn pekonusit_canon_root(
     text: &[u8],
     id: u32,
     sign: u32,
@@ -67,8 +65,7 @@ pub extern "C" fn pekonusit_canon_root(
     code(canon_root(text, id, sign, out, draft, table, arena, work))
 }
 
-#[unsafe(no_mangle)]
-pub extern "C" fn pekonusit_recheck(
+pub fn pekonusit_recheck(
     old_text: &[u8],
     new_text: &[u8],
     listing: &[u8],
@@ -88,8 +85,7 @@ pub extern "C" fn pekonusit_recheck(
     ))
 }
 
-#[unsafe(no_mangle)]
-pub extern "C" fn pekonusit_recheck_numbered(
+pub fn pekonusit_recheck_numbered(
     old_text: &[u8],
     new_text: &[u8],
     listing: &[u8],

@@ -1,0 +1,96 @@
+// The public calls as C functions: each is the one of `signatures` by its name, with the same clauses.
+#![tactic(auto)]
+
+ghost use Rattle.rules.specs.declared.Form.TheVariants.{Plain, Numbered};
+ghost use Rattle.canon_call.specs.Called.{Canon, CanonRoot};
+ghost use Rattle.recheck_call.specs.Rechecked.{Rechecked};
+ghost use Rattle.signatures.specs.Exports.{Exported};
+
+#[unsafe(no_mangle)]
+pub extern "C" fn pekonusit_canon(
+    text: &[u8],
+    out: &mut [u8],
+    draft: &mut [u8],
+    table: &mut [u32],
+    arena: &mut [u32],
+    work: &mut [u32],
+) -> u64
+    ensures { Exported (Canon Plain text.now out.old draft.old table.old arena.old work.old
+        out.new draft.new table.new arena.new work.new) result }
+{
+    signatures::pekonusit_canon(text, out, draft, table, arena, work)
+}
+
+#[unsafe(no_mangle)]
+pub extern "C" fn pekonusit_canon_numbered(
+    text: &[u8],
+    out: &mut [u8],
+    draft: &mut [u8],
+    table: &mut [u32],
+    arena: &mut [u32],
+    work: &mut [u32],
+) -> u64
+    ensures { Exported (Canon Numbered text.now out.old draft.old table.old arena.old work.old
+        out.new draft.new table.new arena.new work.new) result }
+{
+    signatures::pekonusit_canon_numbered(text, out, draft, table, arena, work)
+}
+
+#[unsafe(no_mangle)]
+pub extern "C" fn pekonusit_canon_root(
+    text: &[u8],
+    id: u32,
+    sign: u32,
+    out: &mut [u8],
+    draft: &mut [u8],
+    table: &mut [u32],
+    arena: &mut [u32],
+    work: &mut [u32],
+) -> u64
+    ensures { Exported (CanonRoot text.now id sign out.old draft.old table.old arena.old work.old
+        out.new draft.new table.new arena.new work.new) result }
+{
+    signatures::pekonusit_canon_root(text, id, sign, out, draft, table, arena, work)
+}
+
+#[unsafe(no_mangle)]
+pub extern "C" fn pekonusit_recheck(
+    old_text: &[u8],
+    new_text: &[u8],
+    listing: &[u8],
+    out: &mut [u8],
+    draft: &mut [u8],
+    old: &mut [u32],
+    table: &mut [u32],
+    arena: &mut [u32],
+    work: &mut [u32],
+) -> u64
+    ensures { Exported (Rechecked Plain old_text.now new_text.now listing.now out.old
+        draft.old old.old table.old arena.old work.old
+        out.new draft.new old.new table.new arena.new work.new) result }
+{
+    signatures::pekonusit_recheck(
+        old_text, new_text, listing, out, draft, old, table, arena, work,
+    )
+}
+
+#[unsafe(no_mangle)]
+pub extern "C" fn pekonusit_recheck_numbered(
+    old_text: &[u8],
+    new_text: &[u8],
+    listing: &[u8],
+    out: &mut [u8],
+    draft: &mut [u8],
+    old: &mut [u32],
+    table: &mut [u32],
+    arena: &mut [u32],
+    work: &mut [u32],
+) -> u64
+    ensures { Exported (Rechecked Numbered old_text.now new_text.now listing.now out.old
+        draft.old old.old table.old arena.old work.old
+        out.new draft.new old.new table.new arena.new work.new) result }
+{
+    signatures::pekonusit_recheck_numbered(
+        old_text, new_text, listing, out, draft, old, table, arena, work,
+    )
+}
