@@ -1,4 +1,4 @@
-/* Pekonusit's proved calls, for C. `rt staticlib signatures` makes the library, target/staticlib/libsignatures.a, for x86-64.
+/* Pekonusit's proved calls, for C. `host/archive` makes the library, target/staticlib/libsignatures.a, for x86-64.
  *
  * A call takes any bytes and any lent slices, and returns. It allocates nothing, and a thread with 2 MiB of stack suffices. What tables, listings and the
  * numbers of refusals are is told in docs/FORMATS.md, what the calls promise in docs/CALLS.md. */

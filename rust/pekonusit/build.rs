@@ -1,4 +1,4 @@
-//! Links the proved static library, which `rt staticlib signatures` makes.
+//! Links the proved static library, which `host/archive` makes.
 
 use std::path::PathBuf;
 use std::{env, process};
@@ -17,7 +17,7 @@ fn main() {
     println!("cargo:rerun-if-changed={}", archive.display());
     let Ok(archive) = archive.canonicalize() else {
         eprintln!(
-            "pekonusit: {} is missing; make it with `rt staticlib signatures` in the repository's root",
+            "pekonusit: {} is missing; make it with `host/archive` in the repository's root",
             archive.display()
         );
         process::exit(1)

@@ -13,7 +13,7 @@ use crate::calls::{Canon, Input, Recheck, OUTPUT};
 use crate::input::edits;
 
 const TABLES: usize = 100;
-/// Names another program than target/bin/recheck.
+/// Names another program than crates/recheck/out/recheck.
 const PROGRAM: &str = "RECHECK";
 
 pub fn run() {
@@ -38,7 +38,7 @@ pub fn run() {
 }
 
 fn program() -> PathBuf {
-    let ours = Path::new(env!("CARGO_MANIFEST_DIR")).join("../target/bin/recheck");
+    let ours = Path::new(env!("CARGO_MANIFEST_DIR")).join("../crates/recheck/out/recheck");
     env::var_os(PROGRAM).map_or(ours, PathBuf::from)
 }
 
