@@ -1,0 +1,9 @@
+-- What came so far fits into the room.
+use Rattle.std.proofs.Common.{length, ◌-◌, ◌≤◌}
+use Rattle.programs.proofs.read_room.Given as goal
+
+abbrev pub invariant-loop-n : goal.invariant-loop-n
+invariant-loop-n g l = l.n ≤ length l.room
+
+abbrev pub decreases-loop-n : goal.decreases-loop-n
+decreases-loop-n g l = length l.initial.room - l.n
