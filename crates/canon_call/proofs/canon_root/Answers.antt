@@ -1,0 +1,7 @@
+use mathlib.Core.Path.{refl}
+use Rattle.canon_call.proofs.canon_root.Goals as goal
+
+pub returns : goal.returns
+unfolding canon_root_call
+returns c =
+    c.call.ensures.is _ refl
