@@ -1,4 +1,5 @@
 use mathlib.Core.Path.{refl}
+use Rattle.rules.specs.Calls.{canon_call}
 use Rattle.canon_call.proofs.canon_in.Goals as goal
 
 pub returns : goal.returns

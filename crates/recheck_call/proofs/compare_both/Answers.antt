@@ -1,11 +1,12 @@
 -- Tables that may be compared have as many lines of each kind, so the counts of the new one do for the old one too.
-use mathlib.Core.Path.{◌∙◌}
+use mathlib.Core.Path.{ap, ◌∙◌}
+use mathlib.Core.Bool.{not}
 use Rattle.recheck_call.proofs.Calling.{flagged, not_comparable, refused_old, listed_both}
 use Rattle.recheck_call.proofs.compare_both.Goals as goal
 
 pub returns-then-not-comparable : goal.returns-then-not-comparable
 returns-then-not-comparable c =
-    not_comparable c.comparable.ensures c.if-not-comparable.true
+    not_comparable c.comparable.ensures (ap not c.if-not-comparable.true)
 
 pub returns-in-Refused : goal.returns-in-Refused
 returns-in-Refused c = search refused_old
@@ -28,6 +29,6 @@ shape_of-work c =
 
 pub returns-in-InForm : goal.returns-in-InForm
 returns-in-InForm c =
-    listed_both c.comparable.ensures c.if-not-comparable.false c.number.ensures c.first_root.ensures c.number-2.ensures c.read_old.ensures c.in-InForm.is
+    listed_both c.comparable.ensures (ap not c.if-not-comparable.false) c.number.ensures c.first_root.ensures c.number-2.ensures c.read_old.ensures c.in-InForm.is
     c.read_old.auto.spans c.read_old.auto.words
     (flagged c.prepare-g.ensures c.prepare-g.auto.table c.flag_redone.ensures c.flag_redone.auto.work c.deliver.ensures)
