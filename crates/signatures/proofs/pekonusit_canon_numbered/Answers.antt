@@ -1,0 +1,6 @@
+-- The rules refuse no call with 0, so the number tells this outcome and no other.
+use Rattle.signatures.proofs.Codes.{canon_exported}
+use Rattle.signatures.proofs.pekonusit_canon_numbered.Goals as goal
+
+pub returns : goal.returns
+returns c = search canon_exported
