@@ -1,26 +1,16 @@
--- Worked examples of the calls, as one table with a single theorem: all that a call is given, and what it comes to. What types come out is
--- shown in Examples.antt; here stands what is refused, with its number and line, what recheck keeps and what it does again. Beside each
--- is the sentence of the scope document that it shows.
+-- Worked examples of the calls, as one table: all that a call is given, and what it comes to. What types come out is shown in
+-- Examples.antt; here stands what is refused, with its number and line, what recheck keeps and what it does again. Beside each is the
+-- sentence of the scope document that it shows. The theorem of them is `called`, in proofs/CallExamples.antt.
 -- Left out, since such an input has hundreds of lines and more: 8 and 9, and of 2 the 1,025th name, the 2,049th entry, the 8,193rd id or
 -- key, the 2,049th pair and the 513th mark. They are run.
-use Rattle.std.specs.Prelude.{◌≡◌, refl, ℕ, zero, suc, List, [], ◌∷◌, ◌++◌, map}
+use Rattle.std.specs.Prelude.{ℕ, zero, suc, List, [], ◌∷◌, ◌++◌}
 use Prim.Native.String.{String}
 use Rattle.rules.specs.Plain.{ascii}
-use Rattle.rules.specs.Text.{pieces, digit, number, decimal, hex, escaped, name, field_of, row_of, row_texts, field_text}
+use Rattle.rules.specs.Text.{decimal}
 use Rattle.rules.specs.Text.{comma, parted, line_text}
-use Rattle.rules.specs.Table.{section_of, attr_at, entry_of, step, in_table, sections_of, table_of, representatives, Result, accepted, refused}
-use Rattle.rules.specs.Types.{store, limit}
-use Rattle.rules.specs.Order.{order, sort}
-use Rattle.rules.specs.Members.{is_subtype_of, flatten_composite, are_shapes_disjoint, are_output_types_disjoint}
-use Rattle.rules.specs.Members.{is_output_subtype_or_equal, remove_tautological_pairs, absorb_subsumed_union_members}
-use Rattle.rules.specs.Members.{merge_attrset_intersection, remove_redundant_negations, has_type_contradiction}
-use Rattle.rules.specs.Members.{simplify_union_neg_intersection, factor_shared_from_intersection, negate_output_ty}
-use Rattle.rules.specs.Canonicalizer.{expand_bounds, expand_bounds_empty_fallback, canonicalize_inner, inter_rest, inter_retry, inter_rule}
-use Rattle.rules.specs.Canonicalizer.{union_rule, rule, entered, visit, pass, canonicalize, first_pass, answer_of}
-use Rattle.rules.specs.Listing.{walk, node_text, root_text, listing_text, node_of, node_in_form, old_listing}
-use Rattle.rules.specs.Variables.{free_type_vars, normalize_vars}
+use Rattle.rules.specs.Table.{Result, accepted, refused}
 use Rattle.rules.specs.declared.Form.TheVariants.{Plain, Numbered}
-use Rattle.rules.specs.Calls.{canon, canon_root, comparable, meets, recheck_text, recheck, split_next, lent, canon_program, recheck_program}
+use Rattle.rules.specs.Calls.{canon, canon_root, recheck, lent, canon_program, recheck_program}
 
 -- a call, or a program, with all that it is given; the last number of a call is the length of its output
 pub data Call : Type 0 where
@@ -324,14 +314,3 @@ call_examples =
     ∷ record { call = of_recheck (ascii "budget\t0\n") (ascii "budget\t0\n") (ascii "answers\t0\nnumbered\n") lent; result = refused 11 2 }
     ∷ record { call = of_recheck_numbered (ascii "budget\t0\n") (ascii "budget\t0\n") (ascii "answers\t0\nnumbered\n") lent; result = written "\nanswers\t0\nnumbered\n" }
     ∷ []
-
-called : map (λ (e : CallExample). comes_to e.call) call_examples ≡ map (λ (e : CallExample). e.result) call_examples
-unfolding pieces digit number decimal hex escaped name field_of row_of row_texts field_text
-    section_of attr_at entry_of step in_table sections_of table_of representatives store limit order sort
-    is_subtype_of flatten_composite are_shapes_disjoint are_output_types_disjoint is_output_subtype_or_equal
-    remove_tautological_pairs absorb_subsumed_union_members merge_attrset_intersection remove_redundant_negations has_type_contradiction
-    simplify_union_neg_intersection factor_shared_from_intersection negate_output_ty
-    expand_bounds expand_bounds_empty_fallback canonicalize_inner inter_rest inter_retry inter_rule union_rule rule entered visit pass
-    canonicalize first_pass answer_of free_type_vars normalize_vars walk node_text root_text listing_text node_of node_in_form old_listing
-    canon canon_root comparable meets recheck_text recheck split_next canon_program recheck_program
-called = refl

@@ -1,22 +1,10 @@
--- Worked examples, from table text to listing text, as one table with a single theorem: those of the scope document, then some for the
--- rules that those do not show.
-use Rattle.std.specs.Prelude.{◌≡◌, refl, ℕ, zero, suc, List, [], ◌∷◌, ◌++◌, map, replicate}
+-- Worked examples, from table text to listing text, as one table: those of the scope document, then some for the rules that those do
+-- not show. The theorem of them is `worked`, in proofs/Examples.antt.
+use Rattle.std.specs.Prelude.{ℕ, zero, suc, List, [], ◌∷◌, ◌++◌, map, replicate}
 use Prim.Native.String.{String}
 use Rattle.rules.specs.Plain.{ascii, joined}
-use Rattle.rules.specs.Text.{pieces, digit, number, decimal, hex, escaped, name, field_of, row_of, row_texts, field_text}
+use Rattle.rules.specs.Text.{pieces, decimal}
 use Rattle.rules.specs.Text.{comma, parted, line_text}
-use Rattle.rules.specs.Table.{section_of, attr_at, entry_of, step, in_table, sections_of, table_of, representatives}
-use Rattle.rules.specs.Types.{store, limit}
-use Rattle.rules.specs.Order.{order, sort}
-use Rattle.rules.specs.Members.{is_subtype_of, flatten_composite, are_shapes_disjoint, are_output_types_disjoint, is_output_subtype_or_equal}
-use Rattle.rules.specs.Members.{remove_tautological_pairs, absorb_subsumed_union_members, merge_attrset_intersection}
-use Rattle.rules.specs.Members.{remove_redundant_negations, has_type_contradiction, simplify_union_neg_intersection}
-use Rattle.rules.specs.Members.{factor_shared_from_intersection, negate_output_ty}
-use Rattle.rules.specs.Canonicalizer.{expand_bounds, expand_bounds_empty_fallback, canonicalize_inner, inter_rest, inter_retry, inter_rule}
-use Rattle.rules.specs.Canonicalizer.{union_rule, rule, entered, visit, pass, canonicalize, first_pass, answer_of}
-use Rattle.rules.specs.Listing.{walk, node_text, root_text, listing_text}
-use Rattle.rules.specs.declared.Form.TheVariants.{Plain}
-use Rattle.rules.specs.Calls.{canon, canon_program}
 
 pub record Example : Type 0 where
   pub table : List ℕ
@@ -207,12 +195,3 @@ examples =
       listing = ascii "answers\t1\nroot\t6\t+\t2\t1035\t0\t1\t5\n0\ttyvar\t40\n1\tfn\t0\t0\n2\ttyvar\t3\n3\tfn\t0\t2\n4\tfn\t1\t3\n";
     }
     ∷ []
-
-worked : map (λ (e : Example). canon_program Plain e.table) examples ≡ map (λ (e : Example). e.listing) examples
-unfolding pieces digit number decimal hex escaped name field_of row_of row_texts field_text section_of attr_at entry_of step in_table sections_of table_of
-    representatives store limit order sort is_subtype_of flatten_composite are_shapes_disjoint are_output_types_disjoint is_output_subtype_or_equal
-    remove_tautological_pairs absorb_subsumed_union_members merge_attrset_intersection remove_redundant_negations has_type_contradiction
-    simplify_union_neg_intersection factor_shared_from_intersection negate_output_ty expand_bounds expand_bounds_empty_fallback canonicalize_inner
-    inter_rest inter_retry inter_rule union_rule rule entered visit pass canonicalize first_pass answer_of walk node_text root_text listing_text canon
-    canon_program
-worked = refl

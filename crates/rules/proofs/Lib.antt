@@ -1,0 +1,3 @@
+-- The theorems of the worked examples.
+pub mod Examples
+pub mod CallExamples
