@@ -14,7 +14,7 @@ use Rattle.rules.specs.Plain.{filter, empty, both}
 use Rattle.rules.specs.Ceilings.{most_operations}
 use Rattle.rules.specs.Table.{Field, Attr, Entry, var, prim, tyvar, list, fn, set, neg, named, inter, union, frozen, field_types, field_keys, dyn_ids, kids, as_set}
 use Rattle.rules.specs.Types.{Node, Primitive, ListOf, Lambda, AttrSet, Union, Intersection, Named, Bottom, Top, as_attr, children, flip, State, ok, Run, ◌>>=◌, give}
-use Rattle.rules.specs.Types.{refuse, is, store, union_kind, intersection_kind}
+use Rattle.rules.specs.Types.{refuse, store, union_kind, intersection_kind}
 use Rattle.rules.specs.Members.{add_all, each, remove_tautological_pairs, absorb_subsumed_union_members, merge_attrset_intersection, remove_redundant_negations}
 use Rattle.rules.specs.Members.{has_type_contradiction, simplify_union_neg_intersection, factor_shared_from_intersection, negate_output_ty}
 use Rattle.rules.specs.Canonicalizer.{Pass, Reader, Visit, variable, add_bit, note, tick, count_one, exceeds, check_budget, slot, key_at, set_key, should_drop_filler}

@@ -6,8 +6,7 @@
 use Rattle.std.specs.Prelude.{ℕ, zero, suc, List, [], ◌∷◌, ◌++◌}
 use Prim.Native.String.{String}
 use Rattle.rules.specs.Plain.{ascii}
-use Rattle.rules.specs.Text.{decimal}
-use Rattle.rules.specs.Text.{comma, parted, line_text}
+use Rattle.rules.specs.Text.{decimal, comma, parted, line_text}
 use Rattle.rules.specs.Table.{Result, accepted, refused}
 use Rattle.rules.specs.declared.Form.TheVariants.{Plain, Numbered}
 use Rattle.rules.specs.Calls.{canon, canon_root, recheck, lent, canon_program, recheck_program}

@@ -3,8 +3,7 @@
 use Rattle.std.specs.Prelude.{ℕ, zero, suc, List, [], ◌∷◌, ◌++◌, map, replicate}
 use Prim.Native.String.{String}
 use Rattle.rules.specs.Plain.{ascii, joined}
-use Rattle.rules.specs.Text.{pieces, decimal}
-use Rattle.rules.specs.Text.{comma, parted, line_text}
+use Rattle.rules.specs.Text.{decimal, comma, parted, line_text}
 
 pub record Example : Type 0 where
   pub table : List ℕ

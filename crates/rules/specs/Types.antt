@@ -1,5 +1,5 @@
 -- Types: polarity, nodes, the state of a pass, and the store with limits 7, 8 and 9.
-use Rattle.std.specs.Prelude.{Bool, true, false, ℕ, ◌+◌, ◌*◌, List, [], ◌∷◌, ◌++◌, map, length, get_or, set, eqb, ltb}
+use Rattle.std.specs.Prelude.{Bool, true, false, ℕ, ◌+◌, ◌*◌, List, [], ◌∷◌, ◌++◌, map, length, get_or, eqb, ltb}
 use Rattle.cells.specs.Part.{if, eq_list}
 use Rattle.rules.specs.Plain.{ascii, unless, find}
 use Rattle.rules.specs.Ceilings.{most_members, most_nodes, most_cells}
