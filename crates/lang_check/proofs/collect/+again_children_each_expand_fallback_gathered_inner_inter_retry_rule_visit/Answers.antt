@@ -32,13 +32,12 @@ each-overflow_add-i t c =
     omega (arith, c.loop-i.invariant.0, c.loop-i-test.true)
 
 pub each-loop-i-preserved : goal.each-loop-i-preserved
-each-loop-i-preserved t c =
-    (
-      c.loop-i.invariant.0,
-      eaching_more c.loop-i.invariant.1 c.loop-i-test.true c.place.ensures c.get-b.ensures c.add.ensures
-          c.side.ensures c.visit.ensures c.in-Node.is c.visit.auto.arena c.visit.auto.work c.place-in-Node.ensures
-          c.put.ensures,
-    )
+each-loop-i-preserved t c = (
+  c.loop-i.invariant.0,
+  eaching_more c.loop-i.invariant.1 c.loop-i-test.true c.place.ensures c.get-b.ensures c.add.ensures
+      c.side.ensures c.visit.ensures c.in-Node.is c.visit.auto.arena c.visit.auto.work c.place-in-Node.ensures
+      c.put.ensures,
+)
 
 pub each-returns-in-Refused : goal.each-returns-in-Refused
 each-returns-in-Refused t c =

@@ -9,8 +9,7 @@ pub loop-i-init : goal.loop-i-init
 loop-i-init c = (owning_none, search rules)
 
 pub loop-i-preserved : goal.loop-i-preserved
-loop-i-preserved c =
-    (
-      owning_more c.count_members.ensures c.loop-i.invariant.0 c.loop-i-test.true c.at.ensures c.mark_if_own.ensures,
-      search rules,
-    )
+loop-i-preserved c = (
+  owning_more c.count_members.ensures c.loop-i.invariant.0 c.loop-i-test.true c.at.ensures c.mark_if_own.ensures,
+  search rules,
+)
