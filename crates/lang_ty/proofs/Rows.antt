@@ -11,7 +11,7 @@ use Rattle.cells.specs.Sum.{Sum}
 use Rattle.cells.proofs.Parts.{run_length, run_snoc}
 use Rattle.cells.proofs.Holding.{holds_none, holds_place, holds_list, holds_cons, holds_both, holds_ext}
 use Rattle.rules.specs.Ceilings.{most_members}
-use Rattle.rules.specs.Types.{State, encode, members, node_at}
+use Rattle.rules.specs.Types.{State, encode, node_at}
 use Rattle.laws.specs.Sound.{OrderlySet}
 use Rattle.laws.proofs.Storing.{store_many}
 use Rattle.lang_ty.specs.declared.arena.Pass.{Pass}
