@@ -16,7 +16,7 @@ use Rattle.cells.proofs.Holding.{holds_none, holds_at, holds_head}
 use Rattle.rules.specs.Ceilings.{most_members}
 use Rattle.rules.specs.Plain.{any, all, filter, contains}
 use Rattle.rules.specs.Types.{Node, Union, Intersection, State, Out, ok, no, Run, bind, give, store, members, is}
-use Rattle.rules.specs.Order.{order, is_greater, insert, sort_into, sort}
+use Rattle.rules.specs.Order.{is_greater, insert, sort_into, sort}
 use Rattle.rules.specs.Members.{members_at, without, sole, remainders, factored, factor_unions, factor_shared_from_intersection}
 use Rattle.laws.proofs.Sorting.{sort_sorted, insert_at}
 use Rattle.laws.proofs.Storing.{store_many}

@@ -4,8 +4,6 @@ use Prim.Native.Nat.{ℕ, suc, ◌+◌, ◌<◌}
 use native.Mathlib.Omega.{arith}
 use mathlib.Core.List.{List, [], ◌∷◌}
 use lib.ListN.{length}
-use denote.Enum.Declared.{tag_of}
-use types.Run.{OneOf, miss}
 use Rattle.cells.specs.Part.{cell}
 use Rattle.cells.proofs.Holding.{holds_at}
 use Rattle.rules.specs.Table.{Entry, prim, tyvar, list, fn, set, neg, named, union, as_set}
@@ -29,7 +27,6 @@ use Rattle.storage.specs.Sets.{StoresSet}
 use Rattle.storage.specs.Entries.{ReadAs}
 use Rattle.storage.specs.Helds.{held_kids}
 use Rattle.storage.specs.Vars.{IsVariable}
-use Rattle.storage.specs.contracts.entries.Entry.{the_type}
 use Rattle.members.specs.declared.lists.Flow.{Flow}
 use Rattle.members.specs.declared.lists.Flow.TheVariants.{On, Refused as RefusedF}
 use Rattle.negation.specs.Negations.{members_up_to, Negatable, AnswersGiven, NegatesOutput}

@@ -4,8 +4,6 @@ use Prim.Native.Nat.{ℕ, suc, ◌≤◌}
 use native.Mathlib.Omega.{arith}
 use mathlib.Core.List.{List, [], ◌∷◌, ◌++◌}
 use lib.ListN.{length}
-use denote.Enum.Declared.{tag_of}
-use types.Run.{OneOf, miss}
 use Rattle.cells.specs.Part.{cell}
 use Rattle.layout.specs.Layout.{held_at}
 use Rattle.rules.specs.Table.{Field, Entry, var, prim, tyvar, list, fn, set, neg, named, inter, union, frozen, field_types, dyn_ids, kids, as_set}
@@ -28,7 +26,6 @@ use Rattle.storage.specs.Entries.{ReadAs, EntryRead}
 use Rattle.storage.specs.Helds.{held_kids, first_polarity, HoldsChildren, FirstPolarity}
 use Rattle.storage.proofs.HeldIds.{read_as}
 use Rattle.storage.proofs.SetNodes.{orderly_retyped}
-use Rattle.storage.specs.contracts.entries.Entry.{the_type}
 use Rattle.members.specs.declared.lists.Flow.{Flow}
 use Rattle.composites.specs.Places.{union_end}
 use Rattle.lang_check.specs.Cycle.{Poised, Answers, AnswersHeld, visited, made, StoredBy, Made, Rules, Children, Each, Inner, Inters}

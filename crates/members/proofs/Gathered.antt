@@ -17,7 +17,7 @@ use Rattle.cells.proofs.Parts.{run_length, run_get_d, run_snoc}
 use Rattle.cells.proofs.Holding.{holds_none, holds_place, holds_cons, holds_both, holds_ext, holds_at, holds_head, holds_list}
 use Rattle.rules.specs.Ceilings.{most_members}
 use Rattle.rules.specs.Plain.{any, all, filter, both}
-use Rattle.rules.specs.Types.{Node, TyVar, Primitive, ListOf, Lambda, AttrSet, Union, Intersection, Named, Neg, Bottom, Top, State, Out, ok, no, bind, give, store, is, kind_of, node_at, encode}
+use Rattle.rules.specs.Types.{Node, TyVar, Primitive, ListOf, Lambda, AttrSet, Union, Intersection, Named, Neg, Bottom, Top, State, Out, ok, no, bind, give, store, kind_of, node_at, encode}
 use Rattle.rules.specs.Members.{sole, members_at, is_positive, is_concrete}
 use Rattle.rules.specs.Canonicalizer.{drops_node}
 use Rattle.rules.specs.Canonicalizer as rules

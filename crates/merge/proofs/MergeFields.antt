@@ -41,7 +41,7 @@ use Rattle.merge.specs.Merges.{AnswersField, MergesField, GoesOn, Got, fields_at
 use Rattle.laws.proofs.Filtering.{under_at, under_most, under_front}
 use Rattle.merge.proofs.Fields.{false_true, rise_length, rise_snoc, rise_most, sweep, sweep_from, sweep_left, sweep_right, sweep_few}
 use Rattle.cells.specs.Placed.{Holds, Under}
-use mathlib.Core.Option.{Option, none, some}
+use mathlib.Core.Option.{Option}
 
 types_more : (k : ℕ) (fs : List Field) (f : Field) → Under k (field_types fs) → f.type < k → Under k (field_types (fs ++ (f ∷ [])))
 types_more k [] f h lt = (lt, tt)

@@ -25,7 +25,7 @@ use Rattle.merge.specs.declared.Next.{Next}
 use Rattle.merge.specs.declared.Next.TheVariants.{Old, New, Both}
 use Rattle.members.specs.Lists.{Few, Taken, Answers, first_of}
 use Rattle.cells.specs.Placed.{Holds, Under}
-use Rattle.std.proofs.Math.Option.{Option, none, some}
+use Rattle.std.proofs.Math.Option.{Option, none}
 
 -- from h on there is room for two areas of 1,024 fields
 pub record Roomy (held : List ℕ) (h : ℕ) : Type 0 where

@@ -1,4 +1,3 @@
-use Rattle.rules.specs.Types.{is}
 use Rattle.members.proofs.Gathered.{searching_start, searching_here, searching_more, searching_done}
 use Rattle.members.proofs.lists.any_of_kind.Goals as goal
 
