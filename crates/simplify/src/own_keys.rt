@@ -41,6 +41,7 @@ fn count_members(arena: &[u32], s: &[u32], n: u32, counts: &mut [u32])
 }
 
 // Node x is a set without optional keys, and one of its keys was counted once. Where there are optional keys it is not asked which.
+#[tactic(auto, using(crate::proofs::OwnKeys::own_yes))]
 fn has_own_key(arena: &[u32], counts: &[u32], x: u32) -> bool
     ensures { OwnKey arena.now counts.now x result }
 {

@@ -6,18 +6,7 @@ pub loop-i-init : goal.loop-i-init
 loop-i-init c = (flagging_start, search rules)
 
 pub loop-i-preserved : goal.loop-i-preserved
-loop-i-preserved c = (
-  flagging_more
-      c.loop-i.invariant.0
-      c.loop-i.invariant.1
-      c.loop-i-test.true
-      c.place.ensures
-      c.get-row.ensures
-      c.place-in-loop-i.ensures
-      c.get-id.ensures c.place-in-loop-i-2.ensures
-      c.place-in-loop-i-3.ensures c.get.ensures c.put.ensures,
-  search rules,
-)
+loop-i-preserved c = (search flagging_more, search rules)
 
 pub returns : goal.returns
 returns c = search flagging_done

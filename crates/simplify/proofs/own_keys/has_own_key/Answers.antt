@@ -1,4 +1,4 @@
-use Rattle.simplify.proofs.OwnKeys.{own_no, own_yes}
+use Rattle.simplify.proofs.OwnKeys.{own_no}
 use Rattle.simplify.proofs.own_keys.has_own_key.Goals as goal
 
 pub returns-then-not-is : goal.returns-then-not-is
@@ -9,9 +9,6 @@ returns-then-optionals-ne0 c = own_no
 
 pub loop-i-init : goal.loop-i-init
 loop-i-init c = tt
-
-pub returns-then-at-eq1 : goal.returns-then-at-eq1
-returns-then-at-eq1 c = search own_yes
 
 pub loop-i-preserved : goal.loop-i-preserved
 loop-i-preserved c = tt
