@@ -35,7 +35,7 @@ follow w zero p = []
 follow w (suc k) p = if (ltb p earlier_at) (λ _. []) (λ _. (p - earlier_at) ∷ follow w k (cell w p))
 
 -- a bucket tells its newest node, and a node's link the newest before it of the same bucket: so a bucket's links list the nodes of that hash, newest
--- first (`links-list`, proofs/Buckets.antt)
+-- first (`links_list`, proofs/Buckets.antt)
 pub record Indexed (w : List ℕ) (ns : List Node) : Type 0 where
   pub newest_of : (b : ℕ) → b < buckets → cell w (newest_at + b) ≡ link_of (newest (bucket_at bucket ns) b (length ns))
   pub earlier_of : (x : ℕ) → x < length ns → cell w (earlier_at + x) ≡ link_of (newest (bucket_at bucket ns) (bucket_at bucket ns x) x)

@@ -1,5 +1,5 @@
 -- The answers of roots in either form: they are in the form of a listing, what a plain listing shows is the answer as it is, and nothing but
--- variables differs (`lines-in`). And the laws of request 1, of each root of each table that is accepted (`numbered-well`). Assumes nothing.
+-- variables differs (`lines_in`). And the laws of request 1, of each root of each table that is accepted (`numbered_well`). Assumes nothing.
 use mathlib.Core.Path.{◌≡◌, refl, sym, ap, subst}
 use mathlib.Core.Logic.{◌↔◌}
 use mathlib.Core.Bool.{true}

@@ -1,4 +1,4 @@
--- An old listing in form is the line `answers` and its roots' lines, one after another, byte by byte; and it is in one form only (`other-refused`).
+-- An old listing in form is the line `answers` and its roots' lines, one after another, byte by byte; and it is in one form only (`other_refused`).
 -- Assumes nothing.
 use mathlib.Core.Path.{◌≡◌, refl, sym, ap, ap₂, ◌∙◌}
 use mathlib.Core.Bool.{Bool, true, false}

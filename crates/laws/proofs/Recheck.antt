@@ -1,7 +1,7 @@
--- Rechecks, from the bytes that one is given to the bytes that it gives: which roots are redone (`redone-exactly`), that each other root's lines
--- are copied (`kept-copied`), that a listing that canon gave becomes the one that canon gives now (`fresh`), that rechecks compose
--- (`recheck-composes`), that with nothing edited all is kept (`same-tables-all-kept`), and that a listing is taken in one form only
--- (`mixture-refused`). Assumes nothing.
+-- Rechecks, from the bytes that one is given to the bytes that it gives: which roots are redone (`redone_exactly`), that each other root's lines
+-- are copied (`kept_copied`), that a listing that canon gave becomes the one that canon gives now (`fresh`), that rechecks compose
+-- (`recheck_composes`), that with nothing edited all is kept (`same_tables_all_kept`), and that a listing is taken in one form only
+-- (`mixture_refused`). Assumes nothing.
 use mathlib.Core.Path.{◌≡◌, refl, sym, ap, ap₂, ◌∙◌, subst}
 use mathlib.Core.Logic.{◌↔◌}
 use mathlib.Core.Bool.{Bool, true, false}

@@ -48,7 +48,7 @@ marked_too b (shown a) =
     shown (record { passes = a.passes; operations = a.operations; sorted = a.sorted; bailed = b || a.bailed; nodes = a.nodes; root = a.root })
 
 -- how far the first answer is from the second: not at all; or by the mark alone, 0 in the first and 1 in the second, where the first pass bailed
--- and the second pass did not. Which of the two it is, the equation `mark-of-either` says
+-- and the second pass did not. Which of the two it is, the equation `mark_of_either` says
 pub data Moves (p : Pass) (t : Reader) (id : ℕ) (pol : Polarity) : Answer → Answer → Type 0 where
   stays : {a : Answer} → Moves p t id pol a a
   rises : {x y : ℕ} {s u : State} → pass p t id pol ≡ ok x s → s.bailed ≡ true → pass (with_set p s) t id pol ≡ ok y u → u.bailed ≡ false

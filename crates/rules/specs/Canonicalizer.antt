@@ -241,7 +241,7 @@ begin bailed g Positive = record { lower = g.lower; upper = g.upper || bailed }
 
 -- expand_bounds_empty_fallback. "In one chain fallbacks begin each list at most once after the bail (the variable's own rule isn't
 -- counted); a second begin answers TyVar(rep)". A chain has four begins at most: two before the bail and two after it,
--- so that c = 4 is no bound: with more nothing else comes out (the law `chain-visits` in crates/laws/proofs/Chaining.antt)
+-- so that c = 4 is no bound: with more nothing else comes out (the law `chain_visits` in crates/laws/proofs/Chaining.antt)
 unfoldable pub expand_bounds_empty_fallback : ℕ → Pass → Reader → Visit → Begun → ℕ → Polarity → Run ℕ
 expand_bounds_empty_fallback zero p t v g id pol = variable p id
 expand_bounds_empty_fallback (suc c) p t v g id pol = do

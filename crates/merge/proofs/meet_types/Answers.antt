@@ -1,4 +1,4 @@
--- Each way out is a case of the rules' meetTypes: the same type twice, an earlier TyVar, or an intersection that is stored.
+-- Each way out is a case of the rules' meet_types: the same type twice, an earlier TyVar, or an intersection that is stored.
 use Rattle.merge.proofs.MergeFields.{meets_same, meets_var, meets_both}
 use Rattle.merge.proofs.meet_types.Goals as goal
 

@@ -1,4 +1,4 @@
--- Each way out is a case of the rules' mergeDyn: no dyn to merge, none so far, the same one, or an intersection, stored or refused.
+-- Each way out is a case of the rules' merge_dyn: no dyn to merge, none so far, the same one, or an intersection, stored or refused.
 use Rattle.merge.proofs.MergeSets.{dyn_none, dyn_first, dyn_same, dyn_both, dyn_refused}
 use Rattle.merge.proofs.merge_dyn.Goals as goal
 
