@@ -15,7 +15,7 @@ use Rattle.laws.specs.Sound.{ids_of}
 use Rattle.laws.proofs.Accepting.{accepted_tabled}
 use Rattle.text.specs.Reads.{span}
 use Rattle.table.specs.declared.Table.{Table}
-use Rattle.table.specs.declared.Answer.TheVariants.{Accepted}
+use Rattle.std.specs.Prelude.{Ok}
 use Rattle.table.specs.Rows.{Read}
 use Rattle.storage.specs.declared.given.Canon.{Canon}
 use Rattle.prepare.proofs.Prepares.{many, row_at_lem, reads_table}
@@ -23,7 +23,7 @@ use Rattle.prepare.specs.declared.Prepared.{Prepared}
 use Rattle.prepare.specs.Prepares.{root_at, IsPrepared}
 use Rattle.affected.specs.Reaches.{RowsAt, Searched, RootIds}
 
-module _ (text w : List ℕ) (t : Table) (T : rules.Table) (r : Read text w (Accepted t)) (e : table_of text ≡ accepted T) where
+module _ (text w : List ℕ) (t : Table) (T : rules.Table) (r : Read text w (Ok t)) (e : table_of text ≡ accepted T) where
   rows_at_lem : (c : Canon) → c.count ≡ t.entries → c.base ≡ rows_at + 1 + t.names → RowsAt w c T
   rows_at_lem c count base =
       record {
@@ -51,9 +51,9 @@ root_ids q = record {
 }
 
 -- an old and a new table
-pub searched : (text₁ old : List ℕ) (u : Table) (T₁ : rules.Table) → Read text₁ old (Accepted u) → table_of text₁ ≡ accepted T₁
+pub searched : (text₁ old : List ℕ) (u : Table) (T₁ : rules.Table) → Read text₁ old (Ok u) → table_of text₁ ≡ accepted T₁
     → (text₂ table : List ℕ) (t : Table) (T₂ : rules.Table)
-    → Read text₂ table (Accepted t) → table_of text₂ ≡ accepted T₂ → u.names ≡ t.names → u.entries ≡ t.entries
+    → Read text₂ table (Ok t) → table_of text₂ ≡ accepted T₂ → u.names ≡ t.names → u.entries ≡ t.entries
     → (c : Canon) → c.count ≡ t.entries → c.base ≡ rows_at + 1 + t.names → (work : List ℕ) → work_length ≤ length work → Searched old table work c T₁ T₂
 searched text₁ old u T₁ r₁ e₁ text₂ table t T₂ r₂ e₂ names entries c count base work room =
     let few = r₂.laid.few in

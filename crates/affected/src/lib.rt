@@ -38,10 +38,8 @@ fn mark_differing(old: &[u32], table: &[u32], work: &mut [u32], c: Canon) -> u32
 {
     let count = c.count;
     let mut q = 0;
-    let mut x = 0;
-    while x < count {
+    for x in 0..count {
         q = mark_if_differs(old, table, work, c, q, x);
-        x += 1;
     }
     q
 }
@@ -52,14 +50,12 @@ fn mark_before(work: &mut [u32], n: u32, queued: u32, x: u32) -> u32
 {
     let mut q = queued;
     let mut e = get(work, place(LinkSlice::HEAD, x));
-    let mut i = 0;
-    while i < n {
+    for i in 0..n {
         if e == 0 {
             return q;
         }
         q = mark(work, q, get(work, place(LinkSlice::FROM, e)));
         e = get(work, place(LinkSlice::NEXT, e));
-        i += 1;
     }
     q
 }
@@ -69,13 +65,11 @@ fn spread(work: &mut [u32], n: u32, count: u32, queued: u32)
     ensures { Spreads work.old n count queued work.new }
 {
     let mut q = queued;
-    let mut i = 0;
-    while i < count {
+    for i in 0..count {
         if q <= i {
             return;
         }
         q = mark_before(work, n, q, get(work, place(LinkSlice::QUEUE, i)));
-        i += 1;
     }
 }
 
@@ -95,8 +89,7 @@ fn mark_reaching(old: &[u32], table: &[u32], work: &mut [u32], c: Canon)
 fn flag_roots(table: &[u32], work: &[u32], spans: &mut [u32], first: u32, roots: u32)
     ensures { FlagsRoots table.now work.now spans.old first roots spans.new }
 {
-    let mut i = 0;
-    while i < roots {
+    for i in 0..roots {
         let row = get(table, place(first, i));
         let id = get(table, place(row, 1));
         put(
@@ -104,7 +97,6 @@ fn flag_roots(table: &[u32], work: &[u32], spans: &mut [u32], first: u32, roots:
             place(SpanSlice::REDONE, i),
             get(work, place(LinkSlice::MARKS, id)),
         );
-        i += 1;
     }
 }
 

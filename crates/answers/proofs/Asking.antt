@@ -10,7 +10,7 @@ use Rattle.cells.specs.Part.{if, run}
 use Rattle.cells.proofs.Parts.{run_ext, run_get_d}
 use Rattle.rules.specs.Plain.{flag, joined}
 use Rattle.rules.specs.Text.{line_text}
-use Rattle.rules.specs.Table.{Root, root_of}
+use Rattle.rules.specs.Table.{Root, root_of, accepted}
 use Rattle.rules.specs.Table as rules
 use Rattle.rules.specs.Listing.{root_text_of, answers_text, listing_text}
 use Rattle.rules.specs.declared.Form.{Form}
@@ -25,12 +25,11 @@ use Rattle.text.specs.Reads.{span_at}
 use Rattle.listing.proofs.Texts.{wrote_more, wrote_as}
 use Rattle.answers.specs.declared.asked.Asked.{Asked}
 use Rattle.answers.specs.declared.asked.Asked.TheVariants.{All, Root as RootA, Mixed}
-use Rattle.outcomes.specs.declared.Outcome.TheVariants.{Written, Refused}
 use Rattle.outcomes.specs.Outcomes.{Copies}
 use Rattle.answers.specs.Runs.{Running, WritesRoot}
 use Rattle.answers.specs.Mixes.{OldLines, Noted, kept_at, word_at, Lying, lines_at, all_lines, WritesRoots}
 use Rattle.answers.specs.Asks.{Text, WritesAsked, Delivers}
-use Rattle.answers.proofs.Delivered.{too_long, written_anew, copied_out}
+use Rattle.answers.proofs.Delivered.{written_anew, copied_out}
 use Rattle.answers.proofs.Running.{running_on, roots_read, roots_many, few_roots}
 use Rattle.answers.proofs.Mixing.{line_short}
 
@@ -103,13 +102,13 @@ module _ {listing old table arena work o table' o' : List ℕ} {g : Prepared} {a
   asks : {a : Asked} → asked ≡ a → WritesAsked listing old table g arena work a o table' o' r → WritesAsked listing old table g arena work asked o table' o' r
   asks e = subst (λ (a : Asked). WritesAsked listing old table g arena work a o table' o' r) (sym e)
 
-  pub all_asked : {form : Form} → asked ≡ All form → WritesRoots listing old false table g arena work form 0 o table' o' r → WritesAsked listing old table g arena work asked o table' o' r
-  all_asked {form} e w =
+  pub all_asked : {form : Form} {old' : List ℕ} → asked ≡ All form → WritesRoots listing old' false table g arena work form 0 o table' o' r → WritesAsked listing old table g arena work asked o table' o' r
+  all_asked {form} {old'} e w =
       asks e
       (record {
         is = λ {T} t u h.
             let a = w.is u lying_none in
-            let whole : all_lines listing old false form T table g ≡ t = all_is form listing old u ∙ sym h in
+            let whole : all_lines listing old' false form T table g ≡ t = all_is form listing old' u ∙ sym h in
             text_written (wrote_as a.wrote whole) (omega (arith, a.short, ap length whole));
         kept = λ t u h. w.kept u lying_none;
       })
@@ -140,13 +139,10 @@ module _ {listing old table arena work o table' o' : List ℕ} {g : Prepared} {a
 -- each way out of `deliver`: the text was written into the draft
 module _ {listing out draft old table arena work draft₂ table₂ : List ℕ} {g : Prepared} {asked : Asked} {size : ℕ}
     (w : WritesAsked listing old table g arena work asked draft table₂ draft₂ size) where
-  pub deliver_none : length out < size → Delivers listing out old table g arena work asked out (Refused 12 0)
-  deliver_none h = record { is = λ t u k. too_long t out (w.is t u k).size h }
-
   pub deliver_anew : {arena₂ work₂ table₃ out' : List ℕ} {r : ℕ} → length arena₂ ≡ length arena → length work₂ ≡ length work → size ≤ length out
-      → WritesAsked listing old table₂ g arena₂ work₂ asked out table₃ out' r → Delivers listing out old table g arena work asked out' (Written size)
+      → WritesAsked listing old table₂ g arena₂ work₂ asked out table₃ out' r → Delivers listing out old table g arena work asked out' (accepted size)
   deliver_anew la lw h a = record { is = λ t u k. written_anew t out (w.is t u k).size h (a.is t (running_on u (w.kept t u k) la lw) k) }
 
   pub deliver_copy : {out' : List ℕ} → length draft₂ ≡ length draft → size ≤ length out → size ≤ length draft₂ → Copies out draft₂ size out'
-      → Delivers listing out old table g arena work asked out' (Written size)
+      → Delivers listing out old table g arena work asked out' (accepted size)
   deliver_copy ld h d c = record { is = λ t u k. copied_out t out (w.is t u k) h d ld c }

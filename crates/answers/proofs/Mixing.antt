@@ -1,8 +1,11 @@
 -- The lines of the roots are written one after the other, by what the old table's slice tells. Assumes nothing.
+use Rattle.std.specs.Borrow.{Bor}
+use Rattle.std.specs.Prelude.{Option, Some, None}
 use mathlib.Core.Path.{◌≡◌, refl, sym, ap, ap₂, subst, ◌∙◌}
 use mathlib.Core.Bool.{Bool, true, false, not}
 use Prim.Native.Nat.{ℕ, zero, suc, ◌+◌, ◌-◌, ◌*◌, ◌≤◌, ◌<◌}
 use native.Mathlib.Omega.{arith}
+use mathlib.Core.Logic.{◌⊎◌, ⊎_elim}
 use mathlib.Core.List.{List, [], ◌∷◌, ◌++◌, append_assoc, append-nil}
 use lib.ListN.{length, take, drop, length-append}
 use lib.Dec.{eqb}
@@ -10,7 +13,7 @@ use borrow.Author.Tests.{eq-eqb, ne_eqb}
 use Rattle.cells.specs.Part.{if, cell, run}
 use Rattle.cells.proofs.Parts.{run_length, run_snoc}
 use Rattle.layout.specs.Layout.{redone_at}
-use Rattle.rules.specs.Plain.{ascii, both, joined}
+use Rattle.rules.specs.Plain.{ascii, joined}
 use Rattle.rules.specs.Ceilings.{most_roots}
 use Rattle.rules.specs.Text.{tab, parted, line_text}
 use Rattle.rules.specs.Table as rules
@@ -20,23 +23,33 @@ use Rattle.rules.specs.Calls.{redone_word}
 use Rattle.laws.specs.Sound.{most_root_text}
 use Rattle.laws.proofs.Bounding.{answers_bounded}
 use Rattle.text.specs.Reads.{span, span_at}
-use Rattle.text.proofs.Spans.{span_none, span_length, part_taken}
+use Rattle.text.proofs.Spans.{span_none, span_length}
+use Rattle.cells.proofs.Parts.{part_taken}
 use Rattle.prepare.specs.declared.Prepared.{Prepared}
 use Rattle.prepare.specs.Prepares.{root_at}
 use Rattle.listing.specs.Writes.{Wrote}
 use Rattle.listing.proofs.Texts.{wrote_none, wrote_more, wrote_as}
 use Rattle.answers.specs.Runs.{Running, Bounded, WritesRoot}
-use Rattle.answers.specs.Mixes.{kept_at, IsKept, tab_before, word_at, WritesOld, Lying, lines_at, WritesNext, all_lines, WritesRoots}
+use Rattle.answers.specs.Mixes.{slice_of, is_given, kept_at, IsKept, Keeps, tab_before, word_at, WritesOld, Lying, lines_at, WritesNext, all_lines, WritesRoots}
 use Rattle.answers.proofs.Running.{running_on, few_roots}
 
--- each way out of `is_kept`
-pub kept_is : {old : List ℕ} {mixed : Bool} {i p v : ℕ} → mixed ≡ true → p ≡ redone_at + i → v ≡ cell old p → IsKept old mixed i (eqb v 0)
-kept_is {old} {i = i} e a b = record {
-  is = ap (λ (k : ℕ). eqb k 0) (b ∙ ap (cell old) a) ∙ ap (λ (m : Bool). both m (λ _. eqb (cell old (redone_at + i)) 0)) (sym e);
+pub kept_is : {old : List ℕ} {i p v : ℕ} → p ≡ redone_at + i → v ≡ cell old p → IsKept old true i (eqb v 0)
+kept_is {old} a b = record { is = ap (λ (k : ℕ). eqb k 0) (b ∙ ap (cell old) a) }
+
+-- each way out of `keeping`
+pub keeps_ungiven : {old r : Option (Bor (List ℕ))} {i : ℕ} → old ≡ None → r ≡ None → Keeps old i r
+keeps_ungiven {old} {r} {i} e f = record {
+  some = λ g. absurd (cc);
+  none = λ g. ap (λ (x : Option (Bor (List ℕ))). kept_at (slice_of x) (is_given x) i) e;
 }
 
-pub kept_none : {old : List ℕ} {mixed : Bool} {i : ℕ} → mixed ≡ false → IsKept old mixed i false
-kept_none {old} {i = i} e = record { is = ap (λ (m : Bool). both m (λ _. eqb (cell old (redone_at + i)) 0)) (sym e) }
+module _ {old : Option (Bor (List ℕ))} {s : Bor (List ℕ)} {i : ℕ} {b : Bool} (e : old ≡ Some s) (k : IsKept s.now true i b) where
+  pub keeps_slice : b ≡ true → Keeps old i (Some s)
+  keeps_slice f = subst (λ (x : Option (Bor (List ℕ))). Keeps x i (Some s)) (sym e)
+      (record { some = λ {s = t} g. (sym k.is ∙ f, let z : s ≡ t = cc in ap (λ (x : Bor (List ℕ)). x.now) (sym z)); none = λ g. absurd (cc) })
+
+  pub keeps_none : b ≡ false → Keeps old i None
+  keeps_none f = subst (λ (x : Option (Bor (List ℕ))). Keeps x i None) (sym e) (record { some = λ g. absurd (cc); none = λ g. sym k.is ∙ f })
 
 -- each way out of `tab_before`
 pub tab_none : {i p : ℕ} {o : List ℕ} → i ≡ 0 → Wrote (tab_before i) p o o p
@@ -74,23 +87,20 @@ words_next old i =
     ∙ ap (parted tab) (sym (run_snoc (word_at old) 0 i))
     ∙ ap (λ (k : ℕ). parted tab (run (word_at old) 0 k)) next
 
-pub record Worded (old o₀ o : List ℕ) (p n i : ℕ) : Type 0 where
-  pub few : i ≤ n
-  pub same : length o ≡ length o₀
-  pub is : Wrote (parted tab (run (word_at old) 0 i)) 0 o₀ o p
+-- the first i words are written
+pub record Worded (old : List ℕ) (i p : ℕ) (o o' : List ℕ) (r : ℕ) : Type 0 where
+  pub is : Wrote (parted tab (run (word_at old) 0 i)) p o o' r
 
-pub worded_start : {old o : List ℕ} {n : ℕ} → Worded old o o 0 n 0
-worded_start {o = o} = record { few = omega arith; same = refl; is = wrote_none 0 o }
+pub worded_start : {old o : List ℕ} {p : ℕ} → Worded old 0 p o o p
+worded_start {o = o} {p} = record { is = wrote_none p o }
 
-pub worded_next : {old o₀ o o' : List ℕ} {p r n i : ℕ} → Worded old o₀ o p n i → i < n → length o' ≡ length o
-    → Wrote (tab_before i ++ word_at old i) p o o' r → Worded old o₀ o' r n (i + 1)
-worded_next {old} {i = i} h lt l w = record { few = omega arith; same = l ∙ h.same; is = wrote_as (wrote_more h.is w) (words_next old i) }
+module _ {old o o₁ o₂ : List ℕ} {i p q r : ℕ} (h : Worded old i p o o₁ q) where
+  pub worded_next : Wrote (tab_before i ++ word_at old i) q o₁ o₂ r → Worded old (i + 1) p o o₂ r
+  worded_next w = record { is = wrote_as (wrote_more h.is w) (words_next old i) }
 
-pub worded_done : {old o₀ o o' : List ℕ} {p r n i : ℕ} → Worded old o₀ o p n i → n ≤ i → Wrote (10 ∷ []) p o o' r
-    → Wrote (line_text (run (word_at old) 0 n)) 0 o₀ o' r
-worded_done {old} {n = n} {i = i} h le w =
-    let z : i ≡ n = omega (arith, h.few) in
-    wrote_as (wrote_more h.is w) (ap (λ (k : ℕ). line_text (run (word_at old) 0 k)) z)
+  pub worded_done : {n : ℕ} → n ≤ i → i ≤ n → Wrote (10 ∷ []) q o₁ o₂ r → Wrote (line_text (run (word_at old) 0 n)) p o o₂ r
+  worded_done {n} low high w =
+      let z : i ≡ n = omega arith in wrote_as (wrote_more h.is w) (ap (λ (k : ℕ). line_text (run (word_at old) 0 k)) z)
 
 -- at most seven bytes for each root, and the line feed
 word_short : (b : Bool) → length (redone_word b) ≤ 6
@@ -121,14 +131,17 @@ line_short old n = omega (arith, words_short old n, length-append (parted tab (r
 
 -- each way out of `write_old`
 module _ {listing : List ℕ} {p from to : ℕ} {o : List ℕ} where
-  pub old_none : to < from → WritesOld listing p from to o o p
-  old_none h = record { is = λ l. wrote_as (wrote_none p o) (sym (span_none listing from to (omega arith))) }
+  pub old_none : (to < from) ⊎ (length listing < to) → WritesOld listing from to p o o p
+  old_none h = record {
+    is = λ l. ⊎_elim
+        (λ (e : to < from). wrote_as (wrote_none p o) (sym (span_none listing from to (omega arith))))
+        (λ (e : length listing < to). absurd (omega arith))
+        h;
+  }
 
-  pub old_past : length listing < to → WritesOld listing p from to o o p
-  old_past h = record { is = λ l. absurd (let z : ⊥ = omega arith in z) }
-
-  pub old_some : {o' : List ℕ} {r : ℕ} → from ≤ to → Wrote (take (to - from) (drop from listing)) p o o' r → WritesOld listing p from to o o' r
-  old_some h w = record { is = λ l. wrote_as w (part_taken listing from (to - from) (omega arith)) }
+  pub old_some : {o' lines : List ℕ} {r : ℕ} → from ≤ to → lines ≡ take (to - from) (drop from listing) → Wrote lines p o o' r
+      → WritesOld listing from to p o o' r
+  old_some h e w = record { is = λ l. wrote_as w (e ∙ part_taken listing from (to - from) (omega arith)) }
 
 -- each way out of `write_root`: by the root's flag, and by the cells of its row
 lines_turn : (listing old : List ℕ) (mixed : Bool) (form : Form) (T : rules.Table) (table : List ℕ) (first i : ℕ) {p r : ℕ} {o o' : List ℕ} (x : Bool) → kept_at old mixed i ≡ x
@@ -137,34 +150,36 @@ lines_turn : (listing old : List ℕ) (mixed : Bool) (form : Form) (T : rules.Ta
 lines_turn listing old mixed form T table first i {p} {r} {o} {o'} x e =
     subst (λ (y : Bool). Bounded most_root_text (if y (λ _. span_at listing old i) (λ _. root_text_of form T (root_at table (first + i)))) p o o' r) (sym e)
 
-module _ {listing old table arena work : List ℕ} {g : Prepared} {mixed : Bool} {form : Form} {p i r : ℕ} {o : List ℕ} {b : Bool} (k : IsKept old mixed i b) where
-  pub lines_kept : {o' : List ℕ} {from q to : ℕ} → b ≡ true → from ≡ cell old i → q ≡ 1 + i → to ≡ cell old q → WritesOld listing p from to o o' r
-      → WritesNext listing old mixed table g arena work form p i o table o' r
-  lines_kept {o'} {from} {q} {to} e a c d w =
+module _ {listing table arena work : List ℕ} {given kept : Option (Bor (List ℕ))} {g : Prepared} {form : Form} {p i r : ℕ} {o : List ℕ} (k : Keeps given i kept) where
+  pub lines_kept : {s : Bor (List ℕ)} {o' : List ℕ} {from q to : ℕ} → kept ≡ Some s → from ≡ cell s.now i → q ≡ 1 + i → to ≡ cell s.now q
+      → WritesOld listing from to p o o' r → WritesNext listing (slice_of given) (is_given given) table g arena work form p i o table o' r
+  lines_kept {o' = o'} {from} {q} {to} e b c d w =
+      let known = k.some e in
+      let same = known.1 in
       let next : 1 + i ≡ i + 1 = omega arith in
-      let z : to ≡ cell old (i + 1) = d ∙ ap (cell old) (c ∙ next) in
+      let a : from ≡ cell (slice_of given) i = b ∙ ap (λ (l : List ℕ). cell l i) same in
+      let z : to ≡ cell (slice_of given) (i + 1) = d ∙ ap (λ (l : List ℕ). cell l q) same ∙ ap (cell (slice_of given)) (c ∙ next) in
       record {
         is = λ {T} u l lt.
-            let kept = sym k.is ∙ e in
-            let h = l.is i lt kept in
-            lines_turn listing old mixed form T table g.first i true kept
+            let h = l.is i lt known.0 in
+            lines_turn listing (slice_of given) (is_given given) form T table g.first i true known.0
             (record {
               wrote = wrote_as (w.is (omega (arith, h.0))) (ap₂ {C = List ℕ} (span listing) a z);
-              short = omega (arith, span_length listing (cell old i) (cell old (i + 1)), h.0, h.1);
+              short = omega (arith, span_length listing (cell (slice_of given) i) (cell (slice_of given) (i + 1)), h.0, h.1);
             });
         kept = λ u. refl;
       }
 
-  pub lines_redone : {table' o' : List ℕ} {a c d row id sign : ℕ} → b ≡ false → a ≡ g.first + i → row ≡ cell table a → c ≡ row + 1 → id ≡ cell table c
+  pub lines_redone : {table' o' : List ℕ} {a c d row id sign : ℕ} → kept ≡ None → a ≡ g.first + i → row ≡ cell table a → c ≡ row + 1 → id ≡ cell table c
       → d ≡ row + 2 → sign ≡ cell table d → WritesRoot table g arena work form p id sign o table' o' r
-      → WritesNext listing old mixed table g arena work form p i o table' o' r
+      → WritesNext listing (slice_of given) (is_given given) table g arena work form p i o table' o' r
   lines_redone {table'} {o'} e ea row_is ec id_is ed sign-is w =
       let f = row_is ∙ ap (cell table) ea in
       let id-at = id_is ∙ ap (cell table) (ec ∙ ap (λ (n : ℕ). n + 1) f) in
       let sign_at = sign-is ∙ ap (cell table) (ed ∙ ap (λ (n : ℕ). n + 2) f) in
       record {
         is = λ {T} u l lt.
-            lines_turn listing old mixed form T table g.first i false (sym k.is ∙ e)
+            lines_turn listing (slice_of given) (is_given given) form T table g.first i false (k.none e)
             (subst (λ (t : List ℕ). Bounded most_root_text t p o o' r) (ap₂ {C = List ℕ} (root_text form T) id-at sign_at)
             (w.is u (omega (arith, u.prepared.known i lt))));
         kept = w.kept;
@@ -203,47 +218,45 @@ listed_next {texts} {i = i} a e b =
     }
 
 -- of every table that the slice may hold
-pub record Listing (listing old : List ℕ) (mixed : Bool) (form : Form) (g : Prepared) (table₀ arena₀ work₀ o₀ table arena work o : List ℕ) (p₀ p n i : ℕ) : Type 0 where
-  pub few : i ≤ n
+pub record Listing (listing old : List ℕ) (mixed : Bool) (form : Form) (g : Prepared) (table₀ arena₀ work₀ table arena work : List ℕ) (i p₀ : ℕ) (o₀ o : List ℕ) (p : ℕ) : Type 0 where
   pub is : {T : rules.Table} → Running T g table₀ arena₀ work₀ → Lying listing old mixed g.roots
       → Listed (lines_at listing old mixed form T table₀ g.first) table₀ table o₀ o p₀ p i
   pub arena_long : length arena ≡ length arena₀
   pub work_long : length work ≡ length work₀
 
-pub listing_start : {listing old : List ℕ} {mixed : Bool} {form : Form} {g : Prepared} {table arena work o : List ℕ} {p n : ℕ}
-    → Listing listing old mixed form g table arena work o table arena work o p p n 0
-listing_start = record { few = omega arith; is = λ u l. listed_start; arena_long = refl; work_long = refl }
+pub listing_start : {listing old : List ℕ} {mixed : Bool} {form : Form} {g : Prepared} {table arena work o : List ℕ} {p : ℕ}
+    → Listing listing old mixed form g table arena work table arena work 0 p o o p
+listing_start = record { is = λ u l. listed_start; arena_long = refl; work_long = refl }
 
 module _ {listing old : List ℕ} {mixed : Bool} {form : Form} {g : Prepared} {table₀ arena₀ work₀ o₀ : List ℕ} {p₀ : ℕ} where
-  pub listing_next : {table arena work o table' arena' work' o' : List ℕ} {p n i r : ℕ}
-      → Listing listing old mixed form g table₀ arena₀ work₀ o₀ table arena work o p₀ p n i → n ≡ g.roots → i < n
+  pub listing_next : {table arena work o table' arena' work' o' : List ℕ} {p i r : ℕ}
+      → Listing listing old mixed form g table₀ arena₀ work₀ table arena work i p₀ o₀ o p → i < g.roots
       → length arena' ≡ length arena → length work' ≡ length work → WritesNext listing old mixed table g arena work form p i o table' o' r
-      → Listing listing old mixed form g table₀ arena₀ work₀ o₀ table' arena' work' o' p₀ r n (i + 1)
-  listing_next {table} {arena} {work} {o} {table'} {arena'} {work'} {o'} {p} {n} {i} {r} m e lt ea ew w = record {
-    few = omega arith;
+      → Listing listing old mixed form g table₀ arena₀ work₀ table' arena' work' (i + 1) p₀ o₀ o' r
+  listing_next {table} {arena} {work} {o} {table'} {arena'} {work'} {o'} {p} {i} {r} m lt ea ew w = record {
     is = λ {T} u l.
         let a = m.is u l in
         let v : Running T g table arena work = running_on u a.kept m.arena_long m.work_long in
         listed_next a (w.kept v)
-        (subst (λ (t : List ℕ). Bounded most_root_text (lines_at listing old mixed form T t g.first i) p o o' r) a.kept (w.is v l (omega arith)));
+        (subst (λ (t : List ℕ). Bounded most_root_text (lines_at listing old mixed form T t g.first i) p o o' r) a.kept (w.is v l lt));
     arena_long = ea ∙ m.arena_long;
     work_long = ew ∙ m.work_long;
   }
 
   -- after the lines `answers` and `numbered`
-  pub listing_done : {out table arena work o : List ℕ} {at n p i : ℕ} → Wrote (answers_text form n) at out o₀ p₀ → n ≡ g.roots
-      → Listing listing old mixed form g table₀ arena₀ work₀ o₀ table arena work o p₀ p n i → n ≤ i → WritesRoots listing old mixed table₀ g arena₀ work₀ form at out table o p
-  listing_done {out} {table} {arena} {work} {o} {at} {n} {p} {i} head e m high = record {
+  pub listing_done : {out table arena work o : List ℕ} {at p i : ℕ} → Wrote (answers_text form g.roots) at out o₀ p₀
+      → Listing listing old mixed form g table₀ arena₀ work₀ table arena work i p₀ o₀ o p → g.roots ≤ i → i ≤ g.roots → WritesRoots listing old mixed table₀ g arena₀ work₀ form at out table o p
+  listing_done {i = i} head m low high = record {
     is = λ {T} u l.
         let a = m.is u l in
-        let z : i ≡ g.roots = omega (arith, m.few) in
+        let z : i ≡ g.roots = omega arith in
         let few : g.roots ≤ most_roots = few_roots u in
         let lines : ℕ → List ℕ = lines_at listing old mixed form T table₀ g.first in
-        let whole : answers_text form n ++ joined (run lines 0 i) ≡ all_lines listing old mixed form T table₀ g =
-        λ j. answers_text form (e j) ++ joined (run lines 0 (z j)) in
+        let whole : answers_text form g.roots ++ joined (run lines 0 i) ≡ all_lines listing old mixed form T table₀ g =
+        ap (λ (k : ℕ). answers_text form g.roots ++ joined (run lines 0 k)) z in
         record {
           wrote = wrote_as (wrote_more head a.wrote) whole;
-          short = omega (arith, ap length whole, length-append (answers_text form n) (joined (run lines 0 i)), answers_bounded form {n = n} (omega arith), a.short);
+          short = omega (arith, ap length whole, length-append (answers_text form g.roots) (joined (run lines 0 i)), answers_bounded form {n = g.roots} (omega arith), a.short);
         };
     kept = λ u l. (m.is u l).kept;
   }

@@ -24,16 +24,17 @@ use Rattle.rules.specs.declared.Polarity.{Polarity}
 use Rattle.rules.specs.declared.Polarity.TheVariants.{Positive, Negative}
 use Rattle.laws.proofs.Bounding.{Numbers, modest_in, below_in, root_bounded, refused_bounded}
 use Rattle.table.specs.declared.Table.{Table}
-use Rattle.table.specs.declared.Answer.{Answer}
-use Rattle.table.specs.declared.Answer.TheVariants.{Accepted}
+use Rattle.std.specs.Prelude as std
+use Rattle.std.specs.Prelude.{Ok}
+use Rattle.rules.specs.declared.Fault.{Fault}
 use Rattle.table.specs.Rows.{table_from, Read, ReadInto}
 use Rattle.prepare.specs.declared.Prepared.{Prepared}
 use Rattle.prepare.specs.Prepares.{root_at, Prepares}
 use Rattle.prepare.proofs.Prepares.{many}
 use Rattle.prepare.proofs.Facts.{run_places}
 use Rattle.lang_ty.specs.declared.arena.Shown.{Shown}
-use Rattle.lang_check.specs.declared.collect.RootAnswer.{RootAnswer}
-use Rattle.lang_check.specs.declared.collect.RootAnswer.TheVariants.{Shown as ShownR, Refused}
+use Rattle.lang_check.specs.RootAnswer.{RootAnswer}
+use Rattle.lang_check.specs.RootAnswer.{Shown as ShownR, Refused}
 use Rattle.lang_check.specs.Roots.{LentTo, NonePreserved, ShownIs, RootBy, Canonicalizes}
 use Rattle.listing.specs.Writes.{Wrote}
 use Rattle.listing.specs.Printed.{WroteRoot}
@@ -104,8 +105,8 @@ module _ {table arena work table' arena' work' : List ℕ} {g : Prepared} {id si
   }
 
 -- a table that was read after facts that were cleared, and accepted
-pub fresh_read : {text table table₁ table₂ arena work : List ℕ} {a : Answer} {t : Table} → Clears table 0 rows_at table₁ → length table₁ ≡ length table
-    → ReadInto text table₁ table₂ a → a ≡ Accepted t → LentTo table arena work → Fresh (rules.from_sections (table_from t table₂)) t table₂ arena work
+pub fresh_read : {text table table₁ table₂ arena work : List ℕ} {a : std.Result Table Fault} {t : Table} → Clears table 0 rows_at table₁ → length table₁ ≡ length table
+    → ReadInto text table₁ table₂ a → a ≡ Ok t → LentTo table arena work → Fresh (rules.from_sections (table_from t table₂)) t table₂ arena work
 fresh_read {text} {table₂ = table₂} c l q f lent =
     record {
       text = text;

@@ -1,5 +1,6 @@
 -- What is asked of a table, and the text of it: what the functions of asked.rt ensure.
 use Rattle.std.specs.Prelude.{◌≡◌, ℕ, ◌<◌, List, length}
+use Rattle.rules.specs.Table.{Result}
 use Rattle.rules.specs.Table as rules
 use Rattle.rules.specs.Listing.{root_text, listing_text}
 use Rattle.rules.specs.declared.Form.{Form}
@@ -7,7 +8,6 @@ use Rattle.rules.specs.declared.Form.TheVariants.{Plain}
 use Rattle.rules.specs.Calls.{fits, recheck_text, leaves}
 use Rattle.prepare.specs.declared.Prepared.{Prepared}
 use Rattle.listing.specs.Writes.{over}
-use Rattle.outcomes.specs.declared.Outcome.{Outcome}
 use Rattle.answers.specs.declared.asked.Asked.{Asked}
 use Rattle.answers.specs.declared.asked.Asked.TheVariants.{All, Root, Mixed}
 use Rattle.outcomes.specs.Outcomes.{Says}
@@ -37,5 +37,5 @@ pub record WritesAsked (listing old table : List ℕ) (g : Prepared) (arena work
   pub kept : {T : rules.Table} (t : List ℕ) → Running T g table arena work → AskedText T listing old g asked t → table' ≡ table
 
 -- the text stands in the output if it fits, and the call comes to its length, or to 12
-pub record Delivers (listing out old table : List ℕ) (g : Prepared) (arena work : List ℕ) (asked : Asked) (out' : List ℕ) (r : Outcome) : Type 0 where
+pub record Delivers (listing out old table : List ℕ) (g : Prepared) (arena work : List ℕ) (asked : Asked) (out' : List ℕ) (r : Result ℕ) : Type 0 where
   pub is : {T : rules.Table} (t : List ℕ) → Running T g table arena work → AskedText T listing old g asked t → Says (leaves out (fits (length out) t)) out' r

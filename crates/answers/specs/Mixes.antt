@@ -1,5 +1,6 @@
 -- What the old table's slice tells of the roots, and the lines that are written of it: what the functions of mixed.rt ensure.
-use Rattle.std.specs.Prelude.{◌≡◌, Bool, true, not, ℕ, ◌+◌, ◌*◌, ◌≤◌, ◌<◌, List, [], ◌∷◌, ◌++◌, length, get_or, eqb}
+use Rattle.std.specs.Borrow.{Bor}
+use Rattle.std.specs.Prelude.{◌≡◌, Bool, true, false, not, Option, Some, None, ℕ, ◌+◌, ◌*◌, ◌≤◌, ◌<◌, List, [], ◌∷◌, ◌++◌, length, get_or, eqb}
 use Rattle.cells.specs.Part.{if, cell, run}
 use Rattle.layout.specs.Layout.{redone_at}
 use Rattle.rules.specs.Plain.{flag, both, joined}
@@ -32,8 +33,22 @@ pub record Noted (T₁ T₂ : rules.Table) (listing : List ℕ) (texts : List (L
 abbrev pub kept_at : List ℕ → Bool → ℕ → Bool
 kept_at old mixed i = both mixed (λ _. eqb (cell old (redone_at + i)) 0)
 
+-- what is known of the old listing: a slice, in a text that is mixed
+abbrev pub slice_of : Option (Bor (List ℕ)) → List ℕ
+slice_of None = []
+slice_of (Some s) = s.now
+
+abbrev pub is_given : Option (Bor (List ℕ)) → Bool
+is_given None = false
+is_given (Some s) = true
+
 pub record IsKept (old : List ℕ) (mixed : Bool) (i : ℕ) (r : Bool) : Type 0 where
   pub is : r ≡ kept_at old mixed i
+
+-- the slice, if root i keeps its old lines
+pub record Keeps (old : Option (Bor (List ℕ))) (i : ℕ) (r : Option (Bor (List ℕ))) : Type 0 where
+  pub some : {s : Bor (List ℕ)} → r ≡ Some s → (kept_at (slice_of old) (is_given old) i ≡ true) × (s.now ≡ slice_of old)
+  pub none : r ≡ None → kept_at (slice_of old) (is_given old) i ≡ false
 
 -- a tab before each word but the first
 abbrev pub tab_before : ℕ → List ℕ
@@ -44,7 +59,7 @@ abbrev pub word_at : List ℕ → ℕ → List ℕ
 word_at old i = redone_word (not (kept_at old true i))
 
 -- the bytes of the listing between two places
-pub record WritesOld (listing : List ℕ) (p from to : ℕ) (o o' : List ℕ) (r : ℕ) : Type 0 where
+pub record WritesOld (listing : List ℕ) (from to p : ℕ) (o o' : List ℕ) (r : ℕ) : Type 0 where
   pub is : to ≤ length listing → Wrote (span listing from to) p o o' r
 
 -- lines that are kept lie in the listing, which is short

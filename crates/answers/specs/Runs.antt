@@ -10,7 +10,7 @@ use Rattle.rules.specs.Listing.{root_text}
 use Rattle.rules.specs.declared.Form.{Form}
 use Rattle.rules.specs.declared.Polarity.{Polarity}
 use Rattle.table.specs.declared.Table.{Table}
-use Rattle.table.specs.declared.Answer.TheVariants.{Accepted}
+use Rattle.std.specs.Prelude.{Ok}
 use Rattle.table.specs.Rows.{Read}
 use Rattle.prepare.specs.declared.Prepared.{Prepared}
 use Rattle.prepare.specs.Prepares.{IsPrepared}
@@ -42,6 +42,6 @@ pub record WritesRoot (table : List ℕ) (g : Prepared) (arena work : List ℕ) 
 pub record Fresh (T : rules.Table) (t : Table) (table arena work : List ℕ) : Type 0 where
   pub text : List ℕ
   pub is : table_of text ≡ accepted T
-  pub read : Read text table (Accepted t)
+  pub read : Read text table (Ok t)
   pub zeros : (k : ℕ) → k < rows_at → cell table k ≡ 0
   pub lent : LentTo table arena work

@@ -1,10 +1,11 @@
 // What is asked of a table that was accepted, as text, and the text brought to the output if it fits.
+ghost use Rattle.outcomes.specs.Outcomes.{outcome_of};
 ghost use Rattle.answers.specs.Asks.{WritesAsked, Delivers};
 
 use crate::{mixed, roots};
-use outcomes::Outcome;
+use listing::Writer;
 use prepare::Prepared;
-use rules::Form;
+use rules::{Fault, Form, Refusal};
 
 // The lines of all roots after `answers`; those of one id and sign (0 for +), which are plain; or recheck's text.
 #[derive(Clone, Copy)]
@@ -29,16 +30,20 @@ fn write_asked(
     ensures { WritesAsked listing.now old.now table.old g arena.old work.old asked
         out.old table.new out.new result }
 {
+    let mut w = Writer { out, at: 0 };
     match asked {
         Asked::All(form) => {
-            mixed::write_roots(listing, out, old, false, table, g, arena, work, form, 0)
+            mixed::write_roots(listing, &mut w, None, table, g, arena, work, form);
+            w.at
         }
         Asked::Root(id, sign) => {
-            roots::write_root(out, table, g, arena, work, Form::Plain, 0, id, sign)
+            roots::write_root(&mut w, table, g, arena, work, Form::Plain, id, sign);
+            w.at
         }
         Asked::Mixed(form) => {
-            let p = mixed::write_words(out, old, g.roots);
-            mixed::write_roots(listing, out, old, true, table, g, arena, work, form, p)
+            mixed::write_words(&mut w, old, g.roots);
+            mixed::write_roots(listing, &mut w, Some(old), table, g, arena, work, form);
+            w.at
         }
     }
 }
@@ -55,19 +60,22 @@ pub fn deliver(
     arena: &mut [u32],
     work: &mut [u32],
     asked: Asked,
-) -> Outcome
+) -> Result<u32, Fault>
     ensures { Delivers listing.now out.old old.now table.old g arena.old work.old
-        asked out.new result }
+        asked out.new (outcome_of result) }
 {
     let size = write_asked(listing, draft, old, table, g, arena, work, asked);
     let len = size as usize;
     if out.len() < len {
-        return Outcome::Refused(12, 0);
+        return Err(Fault {
+            refusal: Refusal::Output,
+            line: 0,
+        });
     }
     if draft.len() < len {
         write_asked(listing, out, old, table, g, arena, work, asked);
-        return Outcome::Written(size);
+    } else {
+        outcomes::copy(out, draft, len);
     }
-    outcomes::copy(out, draft, len);
-    Outcome::Written(size)
+    Ok(size)
 }

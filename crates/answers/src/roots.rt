@@ -1,9 +1,9 @@
 // A root of a table that was accepted, run.
+ghost use Rattle.listing.specs.Writes.{Writes};
 ghost use Rattle.answers.specs.Runs.{PolarityIs, WritesRoot};
 
 use lang_check::collect;
-use lang_check::collect::RootAnswer;
-use listing::lines;
+use listing::{Writer, lines};
 use prepare::Prepared;
 use rules::{Form, Polarity};
 
@@ -17,24 +17,22 @@ fn polarity(sign: u32) -> Polarity
     }
 }
 
-// The lines of one root, written from position p on; the position after them. This is the one place where the run is called.
+// The lines of one root. This is the one place where the run is called.
 pub fn write_root(
-    out: &mut [u8],
+    w: &mut Writer,
     table: &mut [u32],
     g: Prepared,
     arena: &mut [u32],
     work: &mut [u32],
     form: Form,
-    p: u32,
     id: u32,
     sign: u32,
-) -> u32
-    ensures { WritesRoot table.old g arena.old work.old form p id sign out.old table.new
-        out.new result }
+)
+    ensures { Writes (λ p o o' r. WritesRoot table.old g arena.old work.old form p id sign o table.new o' r)
+        w.old w.new }
 {
-    let c = g.canon;
-    match collect::canonicalize(table, c, arena, work, id, polarity(sign)) {
-        RootAnswer::Shown(s) => lines::root_lines(out, arena, work, p, form, id, sign, s),
-        RootAnswer::Refused(k) => lines::refused_root(out, p, id, sign, k),
+    match collect::canonicalize(table, g.canon, arena, work, id, polarity(sign)) {
+        Ok(s) => lines::root_lines(w, arena, work, form, id, sign, s),
+        Err(k) => lines::refused_root(w, id, sign, k.number()),
     }
 }

@@ -17,16 +17,15 @@ use Rattle.rules.specs.declared.Form.{Form}
 use Rattle.rules.specs.declared.Form.TheVariants.{Plain}
 use Rattle.rules.specs.Calls.{fits, canon, canon_root, leaves, unless_short}
 use Rattle.table.specs.declared.Table.{Table}
-use Rattle.table.specs.declared.Answer.{Answer}
-use Rattle.table.specs.declared.Answer.TheVariants.{Accepted, Refused as TableRefused}
+use Rattle.rules.specs.declared.Fault.{Fault}
+use Rattle.rules.specs.Refusals.{number}
+use Rattle.std.specs.Prelude.{Ok, Err}
 use Rattle.table.specs.Rows.{table_from, ReadInto}
 use Rattle.prepare.specs.declared.Prepared.{Prepared}
 use Rattle.prepare.specs.Prepares.{Prepares}
 use Rattle.outcomes.specs.Outcomes.{Short, Says, Wiped}
 use Rattle.answers.specs.Runs.{Running, Fresh}
 use Rattle.answers.specs.Asks.{AskedText, Delivers}
-use Rattle.outcomes.specs.declared.Outcome.{Outcome}
-use Rattle.outcomes.specs.declared.Outcome.TheVariants.{Refused}
 use Rattle.answers.specs.declared.asked.Asked.{Asked}
 use Rattle.answers.specs.declared.asked.Asked.TheVariants.{All, Root, Mixed}
 use Rattle.outcomes.proofs.Promises.{long_enough, says_as, refused_as, called}
@@ -75,10 +74,10 @@ module _ (text : List ℕ) (room : ℕ) (T : rules.Table) (read : table_of text 
   asked_some listing old g (Mixed form) n h c = absurd c
 
 -- a table that was read after facts that were cleared, where no scratch is short
-fresh_of : {text table arena work table₁ table₂ : List ℕ} {a : Answer} {t : Table} {d : ℕ} {b : Bool}
+fresh_of : {text table arena work table₁ table₂ : List ℕ} {t : Table} {d : ℕ} {b : Bool}
     → Short d (length table) (length arena) arena_length (length work) b → b ≡ false → Clears table 0 rows_at table₁ → length table₁ ≡ length table
-    → ReadInto text table₁ table₂ a → a ≡ Accepted t → Fresh (rules.from_sections (table_from t table₂)) t table₂ arena work
-fresh_of h e c l q f = let n = long_enough h e in fresh_read c l q f (record { table = n.0; arena = n.1; work = n.2 })
+    → ReadInto text table₁ table₂ (Ok t) → Fresh (rules.from_sections (table_from t table₂)) t table₂ arena work
+fresh_of h e c l q = let n = long_enough h e in fresh_read c l q refl (record { table = n.0; arena = n.1; work = n.2 })
 
 known_by : {T : rules.Table} {t : Table} {table arena work : List ℕ} {asked : Asked} {b c : Bool} → IsNoEntry t asked b → Fresh T t table arena work
     → b ≡ c → no_entry (length T.entries) asked ≡ c
@@ -87,43 +86,41 @@ known_by {asked = asked} h f e = ap (λ (n : ℕ). no_entry n asked) (entries_ma
 -- each way out of `answer`; b is what the test for a short scratch said
 module _ {text out draft table arena work : List ℕ} {asked : Asked} {b : Bool}
     (h : Short (length draft) (length table) (length arena) arena_length (length work) b) where
-  answer_by : {out' : List ℕ} {r : Outcome} (c : Bool) → b ≡ c
+  answer_by : {out' : List ℕ} {r : Result ℕ} (c : Bool) → b ≡ c
       → ((x : Result (List ℕ)) → CallOf asked text (length out) x → Says (leaves out (unless_short c x)) out' r)
       → Answers text asked out draft table arena work out' r
   answer_by {out'} {r} c e s = record { is = λ x k. subst (λ (y : Bool). Says (leaves out (unless_short y x)) out' r) (sym e ∙ h.is) (s x k) }
 
-  pub short_answer : b ≡ true → Answers text asked out draft table arena work out (Refused 20 0)
+  pub short_answer : b ≡ true → Answers text asked out draft table arena work out (refused 20 0)
   short_answer e = answer_by true e (λ x k. record { outcome = refl; output = refl })
 
   module _ (e : b ≡ false) where
-    pub refused_answer : {w w' : List ℕ} {a : Answer} {k l : ℕ} → ReadInto text w w' a → a ≡ TableRefused k l
-        → Answers text asked out draft table arena work out (Refused k l)
-    refused_answer q f = answer_by false e (λ x c. refused_as out (refused_by text (length out) asked (refused_read q f) c))
+    pub refused_answer : {w w' : List ℕ} {f : Fault} → ReadInto text w w' (Err f) → Answers text asked out draft table arena work out (refused (number f.refusal) f.line)
+    refused_answer q = answer_by false e (λ x c. refused_as out (refused_by text (length out) asked (refused_read q refl) c))
 
-    pub no_entry_lem : {table₁ table₂ : List ℕ} {a : Answer} {t : Table} {no : Bool} → Clears table 0 rows_at table₁ → length table₁ ≡ length table
-        → ReadInto text table₁ table₂ a → a ≡ Accepted t → IsNoEntry t asked no → no ≡ true → Answers text asked out draft table arena work out (Refused 3 0)
-    no_entry_lem {table₂ = table₂} {t = t} c l q f z y =
-        let fresh : Fresh (rules.from_sections (table_from t table₂)) t table₂ arena work = fresh_of h e c l q f in
-        let k = known_by z fresh y in
-        answer_by false e (λ x d. refused_as out (asked_none text (length out) _ (accepted_read q f) asked k d))
+    module _ {table₁ table₂ : List ℕ} {t : Table} {no : Bool} (c : Clears table 0 rows_at table₁) (l : length table₁ ≡ length table)
+        (q : ReadInto text table₁ table₂ (Ok t)) (z : IsNoEntry t asked no) where
+      pub no_entry_lem : no ≡ true → Answers text asked out draft table arena work out (refused 3 0)
+      no_entry_lem y =
+          let fresh : Fresh (rules.from_sections (table_from t table₂)) t table₂ arena work = fresh_of h e c l q in
+          let k = known_by z fresh y in
+          answer_by false e (λ x d. refused_as out (asked_none text (length out) _ (accepted_read q refl) asked k d))
 
-    pub delivered : {table₁ table₂ old table₃ out' : List ℕ} {a : Answer} {t : Table} {no : Bool} {g : Prepared} {r : Outcome} → Clears table 0 rows_at table₁
-        → length table₁ ≡ length table → ReadInto text table₁ table₂ a → a ≡ Accepted t → IsNoEntry t asked no → no ≡ false
-        → Prepares table₂ t table₃ g → length table₃ ≡ length table₂ → Delivers text out old table₃ g arena work asked out' r
-        → Answers text asked out draft table arena work out' r
-    unfolding first_pass
-    delivered {table₂ = table₂} {old} {table₃} {t = t} {g = g} c l q f z y p lp d =
-        let T : rules.Table = rules.from_sections (table_from t table₂) in
-        let fresh : Fresh T t table₂ arena work = fresh_of h e c l q f in
-        let u : Running T g table₃ arena work = fresh_prepared fresh p lp in
-        let k = known_by z fresh y in
-        answer_by false e
-        (λ x a.
-        let s = asked_some text (length out) T (accepted_read q f) text old g asked u.prepared.knows.count k a in
-        says_as out s.is (d.is s.t u s.asks))
+      pub delivered : {old table₃ out' : List ℕ} {g : Prepared} {r : Result ℕ} → no ≡ false → Prepares table₂ t table₃ g → length table₃ ≡ length table₂
+          → Delivers text out old table₃ g arena work asked out' r → Answers text asked out draft table arena work out' r
+      unfolding first_pass
+      delivered {old} {table₃} {g = g} y p lp d =
+          let T : rules.Table = rules.from_sections (table_from t table₂) in
+          let fresh : Fresh T t table₂ arena work = fresh_of h e c l q in
+          let u : Running T g table₃ arena work = fresh_prepared fresh p lp in
+          let k = known_by z fresh y in
+          answer_by false e
+          (λ x a.
+          let s = asked_some text (length out) T (accepted_read q refl) text old g asked u.prepared.knows.count k a in
+          says_as out s.is (d.is s.t u s.asks))
 
 -- what `call` comes to
-pub calls : {text out draft table arena work draft₁ table₁ arena₁ work₁ out' draft' table' arena' work' : List ℕ} {asked : Asked} {r : Outcome}
+pub calls : {text out draft table arena work draft₁ table₁ arena₁ work₁ out' draft' table' arena' work' : List ℕ} {asked : Asked} {r : Result ℕ}
     → Answers text asked out draft table arena work out' r
     → length draft₁ ≡ length draft → length table₁ ≡ length table → length arena₁ ≡ length arena → length work₁ ≡ length work
     → Wiped draft₁ table₁ arena₁ work₁ draft' table' arena' work' → Calls text asked out draft table arena work out' draft' table' arena' work' r

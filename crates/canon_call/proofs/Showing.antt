@@ -7,13 +7,13 @@ use lib.ListN.{length}
 use Rattle.layout.specs.Layout.{draft_length, table_length, arena_length, work_length}
 use Rattle.rules.specs.Calls.{canon, canon_call, printed, canon_program}
 use Rattle.rules.specs.declared.Form.{Form}
-use Rattle.outcomes.specs.declared.Outcome.{Outcome}
+use Rattle.rules.specs.Table.{Result}
 use Rattle.programs.specs.Shows.{Shows, ShowsOutcome}
 use Rattle.programs.proofs.Showing.{call_shown, full}
 use Rattle.canon_call.specs.Called.{Canon}
 use Rattle.canon_call.specs.Program.{AnswersCanon}
 
-pub canon_shown : (form : Form) (text out : List ℕ) {draft table arena work out₁ draft₁ table₁ arena₁ work₁ out' : List ℕ} {outcome : Outcome} {r : ℕ}
+pub canon_shown : (form : Form) (text out : List ℕ) {draft table arena work out₁ draft₁ table₁ arena₁ work₁ out' : List ℕ} {outcome : Result ℕ} {r : ℕ}
     → draft_length ≡ length draft → table_length ≡ length table → arena_length ≡ length arena → work_length ≡ length work
     → Canon form text out draft table arena work out₁ draft₁ table₁ arena₁ work₁ outcome → length out₁ ≡ length out → ShowsOutcome outcome out₁ out' r
     → AnswersCanon form text out out' r

@@ -6,7 +6,6 @@ use Rattle.rules.specs.declared.Form.{Form}
 use Rattle.rules.specs.Calls.{canon, canon_root, leaves, unless_short, canon_call, canon_root_call}
 use Rattle.table.specs.declared.Table.{Table}
 use Rattle.outcomes.specs.Outcomes.{is_short, Says, Called}
-use Rattle.outcomes.specs.declared.Outcome.{Outcome}
 use Rattle.answers.specs.declared.asked.Asked.{Asked}
 use Rattle.answers.specs.declared.asked.Asked.TheVariants.{All, Root, Mixed}
 
@@ -29,19 +28,19 @@ CallOf (Mixed form) text room x = ⊥
 abbrev pub canon_short : List ℕ → List ℕ → List ℕ → List ℕ → Bool
 canon_short draft table arena work = is_short (length draft) (length table) (length arena) arena_length (length work)
 
-pub record Answers (text : List ℕ) (asked : Asked) (out draft table arena work out' : List ℕ) (r : Outcome) : Type 0 where
+pub record Answers (text : List ℕ) (asked : Asked) (out draft table arena work out' : List ℕ) (r : Result ℕ) : Type 0 where
   pub is : (x : Result (List ℕ)) → CallOf asked text (length out) x → Says (leaves out (unless_short (canon_short draft table arena work) x)) out' r
 
-pub record Calls (text : List ℕ) (asked : Asked) (out draft table arena work out' draft' table' arena' work' : List ℕ) (r : Outcome) : Type 0 where
+pub record Calls (text : List ℕ) (asked : Asked) (out draft table arena work out' draft' table' arena' work' : List ℕ) (r : Result ℕ) : Type 0 where
   pub is : (x : Result (List ℕ)) → CallOf asked text (length out) x
       → Called (leaves out (unless_short (canon_short draft table arena work) x)) draft table arena work out' draft' table' arena' work' r
 
 -- what is promised of canon, which gives a plain listing, and of canon_numbered
-abbrev pub Canon : Form → List ℕ → List ℕ → List ℕ → List ℕ → List ℕ → List ℕ → List ℕ → List ℕ → List ℕ → List ℕ → List ℕ → Outcome → Type 0
+abbrev pub Canon : Form → List ℕ → List ℕ → List ℕ → List ℕ → List ℕ → List ℕ → List ℕ → List ℕ → List ℕ → List ℕ → List ℕ → Result ℕ → Type 0
 Canon form text out draft table arena work out' draft' table' arena' work' r =
     Called (canon_call form text out (canon_short draft table arena work)) draft table arena work out' draft' table' arena' work' r
 
 -- and of canon_root
-abbrev pub CanonRoot : List ℕ → ℕ → ℕ → List ℕ → List ℕ → List ℕ → List ℕ → List ℕ → List ℕ → List ℕ → List ℕ → List ℕ → List ℕ → Outcome → Type 0
+abbrev pub CanonRoot : List ℕ → ℕ → ℕ → List ℕ → List ℕ → List ℕ → List ℕ → List ℕ → List ℕ → List ℕ → List ℕ → List ℕ → List ℕ → Result ℕ → Type 0
 CanonRoot text id sign out draft table arena work out' draft' table' arena' work' r =
     Called (canon_root_call text id sign out (canon_short draft table arena work)) draft table arena work out' draft' table' arena' work' r

@@ -4,15 +4,15 @@
 pub mod program;
 
 ghost use Rattle.rules.specs.declared.Form.TheVariants.{Plain, Numbered};
+ghost use Rattle.outcomes.specs.Outcomes.{outcome_of};
 ghost use Rattle.canon_call.specs.Called.{IsNoEntry, Answers, Calls, Canon, CanonRoot};
 
 use answers::asked::{Asked, deliver};
 use cells::clear;
 use layout::{ArenaSlice, TableSlice};
-use outcomes::Outcome;
 use prepare::prepare;
-use rules::Form;
-use table::{Answer, Table};
+use rules::{Fault, Form, Refusal};
+use table::Table;
 
 // Whether the id that is asked for is no entry of the table.
 fn is_no_entry(t: Table, asked: Asked) -> bool
@@ -35,9 +35,9 @@ fn answer(
     table: &mut [u32],
     arena: &mut [u32],
     work: &mut [u32],
-) -> Outcome
+) -> Result<u32, Fault>
     ensures { Answers text.now asked out.old draft.old table.old arena.old
-        work.old out.new result }
+        work.old out.new (outcome_of result) }
 {
     if outcomes::is_short(
         draft.len(),
@@ -46,20 +46,21 @@ fn answer(
         ArenaSlice::LENGTH,
         work.len(),
     ) {
-        return Outcome::Refused(20, 0);
+        return Err(Fault {
+            refusal: Refusal::Scratch,
+            line: 0,
+        });
     }
     clear(table, 0, TableSlice::ROWS);
-    match table::read(text, table) {
-        Answer::Refused(k, l) => Outcome::Refused(k, l),
-        Answer::Accepted(t) => {
-            if is_no_entry(t, asked) {
-                return Outcome::Refused(3, 0);
-            }
-            let g = prepare(table, t);
-            let none = [0u32; 1];
-            deliver(text, out, draft, &none, table, g, arena, work, asked)
-        }
+    let t = table::read(text, table)?;
+    if is_no_entry(t, asked) {
+        return Err(Fault {
+            refusal: Refusal::Range,
+            line: 0,
+        });
     }
+    let g = prepare(table, t);
+    deliver(text, out, draft, &[0u32; 1], table, g, arena, work, asked)
 }
 
 // What is asked of a table text, or the refusal; the scratch is wiped after it.
@@ -71,9 +72,9 @@ fn call(
     table: &mut [u32],
     arena: &mut [u32],
     work: &mut [u32],
-) -> Outcome
+) -> Result<u32, Fault>
     ensures { Calls text.now asked out.old draft.old table.old arena.old
-        work.old out.new draft.new table.new arena.new work.new result }
+        work.old out.new draft.new table.new arena.new work.new (outcome_of result) }
 {
     let r = answer(text, asked, out, draft, table, arena, work);
     outcomes::wipe_all(draft, table, arena, work);
@@ -89,9 +90,9 @@ pub fn canon_in(
     table: &mut [u32],
     arena: &mut [u32],
     work: &mut [u32],
-) -> Outcome
+) -> Result<u32, Fault>
     ensures { Canon form text.now out.old draft.old table.old arena.old work.old
-        out.new draft.new table.new arena.new work.new result }
+        out.new draft.new table.new arena.new work.new (outcome_of result) }
 {
     call(text, Asked::All(form), out, draft, table, arena, work)
 }
@@ -104,9 +105,9 @@ pub fn canon(
     table: &mut [u32],
     arena: &mut [u32],
     work: &mut [u32],
-) -> Outcome
+) -> Result<u32, Fault>
     ensures { Canon Plain text.now out.old draft.old table.old arena.old work.old
-        out.new draft.new table.new arena.new work.new result }
+        out.new draft.new table.new arena.new work.new (outcome_of result) }
 {
     canon_in(Form::Plain, text, out, draft, table, arena, work)
 }
@@ -119,9 +120,9 @@ pub fn canon_numbered(
     table: &mut [u32],
     arena: &mut [u32],
     work: &mut [u32],
-) -> Outcome
+) -> Result<u32, Fault>
     ensures { Canon Numbered text.now out.old draft.old table.old arena.old work.old
-        out.new draft.new table.new arena.new work.new result }
+        out.new draft.new table.new arena.new work.new (outcome_of result) }
 {
     canon_in(Form::Numbered, text, out, draft, table, arena, work)
 }
@@ -136,9 +137,9 @@ pub fn canon_root(
     table: &mut [u32],
     arena: &mut [u32],
     work: &mut [u32],
-) -> Outcome
+) -> Result<u32, Fault>
     ensures { CanonRoot text.now id sign out.old draft.old table.old arena.old
-        work.old out.new draft.new table.new arena.new work.new result }
+        work.old out.new draft.new table.new arena.new work.new (outcome_of result) }
 {
     call(text, Asked::Root(id, sign), out, draft, table, arena, work)
 }

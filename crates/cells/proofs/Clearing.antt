@@ -1,68 +1,65 @@
--- Zeros written one after another from a place on: what the loop of `clear` keeps. Assumes nothing.
-use mathlib.Core.Path.{◌≡◌, refl, ap, ◌∙◌}
-use mathlib.Core.Bool.{Bool, true, false}
+-- What stands in a slice after a part of it is filled with zeros. Assumes nothing.
+use mathlib.Core.Path.{◌≡◌, ap, ◌∙◌}
 use mathlib.Core.Logic.{⊎_elim}
-use Prim.Native.Nat.{ℕ, ◌+◌, ◌≤◌, ◌<◌, min}
+use Prim.Native.Nat.{ℕ, ◌+◌, ◌-◌, ◌≤◌, ◌<◌, min}
 use native.Mathlib.Omega.{arith}
-use native.Mathlib.Nat.{eq-or-lt_of_le}
-use mathlib.Core.List.{List}
-use lib.ListN.{length, set, length-set, get_or-eq_default}
-use lib.Seq.{get_or-set_same, get_or-set_other}
-use lib.Dec.{ltb}
-use borrow.Author.Tests.{ltb-true, ltb-false}
+use Rattle.std.proofs.Common.{get_or-take, get_or-drop}
+use Rattle.std.proofs.lemmas.Bool.{cases_lt}
+use mathlib.Core.List.{List, ◌++◌}
+use lib.ListN.{length, take, drop, replicate, length-replicate, get_or-append, get_or-replicate, get_or-eq_default}
+use lib.Seq.{length-take-le, get_or-append_right}
+use borrow.Rule.Slice.PartMut.{mid_len, put_mid, post_of}
 use Rattle.cells.specs.Part.{cell}
 use Rattle.cells.specs.Clears.{Clears}
 
--- the cells from a up to i are zero, and the others are as before; e is where the n cells from a on end, or the list
-pub record Clearing (s₀ : List ℕ) (a n e : ℕ) (s : List ℕ) (i : ℕ) : Type 0 where
-  pub from : a ≤ i
-  pub end : e ≡ min (a + n) (length s₀)
-  pub same : length s ≡ length s₀
-  pub few : i ≤ a + n
-  pub zero : (k : ℕ) → a ≤ k → k < i → cell s k ≡ 0
-  pub before : (k : ℕ) → k < a → cell s k ≡ cell s₀ k
-  pub behind : (k : ℕ) → i ≤ k → cell s k ≡ cell s₀ k
+-- the part from b up to e is filled
+module _ (s z : List ℕ) (b e : ℕ) (order : b ≤ e) (within : e ≤ length s) (zeros : z ≡ replicate (length (take (e - b) (drop b s))) 0) where
+  start : length (take b s) ≡ b
+  start = length-take-le b s (omega arith)
 
-pub clearing_start : {s : List ℕ} {a n p e : ℕ} → p ≡ a + n → e ≡ min p (length s) → Clearing s a n e s a
-clearing_start {s} h is =
+  count : length (take (e - b) (drop b s)) ≡ e - b
+  count = mid_len b e s within
+
+  as_long : length z ≡ e - b
+  as_long = ap length zeros ∙ length-replicate (length (take (e - b) (drop b s))) 0 ∙ count
+
+  below : (k : ℕ) → k < b → cell (put_mid b (e - b) s z) k ≡ cell s k
+  below k h =
+      let l = start in
+      get_or-append (take b s) (z ++ post_of b (e - b) s) 0 k (omega arith) ∙ get_or-take b s k 0 h
+
+  on : (k : ℕ) → b ≤ k → cell (put_mid b (e - b) s z) k ≡ cell (z ++ post_of b (e - b) s) (k - b)
+  on k h =
+      let l = start in
+      get_or-append_right (take b s) (z ++ post_of b (e - b) s) k 0 (omega arith) ∙ ap (λ (j : ℕ). cell (z ++ post_of b (e - b) s) (k - j)) l
+
+  inside : (k : ℕ) → b ≤ k → k < e → cell (put_mid b (e - b) s z) k ≡ 0
+  inside k h l =
+      let m = as_long in
+      let c = count in
+      on k h ∙ get_or-append z (post_of b (e - b) s) 0 (k - b) (omega arith)
+      ∙ ap (λ (y : List ℕ). cell y (k - b)) zeros
+      ∙ get_or-replicate (length (take (e - b) (drop b s))) (k - b) 0 0 (omega arith)
+
+  behind : (k : ℕ) → e ≤ k → cell (put_mid b (e - b) s z) k ≡ cell s k
+  behind k h =
+      let m = as_long in
+      on k (omega arith) ∙ get_or-append_right z (post_of b (e - b) s) (k - b) 0 (omega arith)
+      ∙ get_or-drop (e - b) (drop b s) ((k - b) - length z) 0
+      ∙ get_or-drop b s ((e - b) + ((k - b) - length z)) 0
+      ∙ ap (cell s) (omega arith)
+
+pub filled_clears : {s z : List ℕ} {a n p e b : ℕ} → p ≡ a + n → e ≡ min p (length s) → b ≡ min a e
+    → z ≡ replicate (length (take (e - b) (drop b s))) 0 → Clears s a n (put_mid b (e - b) s z)
+filled_clears {s} {z} {a} {n} {p} {e} {b} place end start zeros =
+    let order : b ≤ e = omega arith in
+    let within : e ≤ length s = omega arith in
     record {
-      from = omega arith;
-      end = is ∙ ap (λ (k : ℕ). min k (length s)) h;
-      same = refl;
-      few = omega arith;
-      zero = λ k lo hi. absurd (omega arith);
-      before = λ k lt. refl;
-      behind = λ k le. refl;
-    }
-
-pub clearing_in : {s₀ s : List ℕ} {a n e i : ℕ} → Clearing s₀ a n e s i → i < e → i < length s
-clearing_in c lt = omega (arith, c.end, c.same)
-
-pub clearing_more : {s₀ s : List ℕ} {a n e i : ℕ} → Clearing s₀ a n e s i → i < e → Clearing s₀ a n e (set s i 0) (i + 1)
-clearing_more {s₀} {s} {a} {n} {e} {i} c lt =
-    let others : (k : ℕ) → (k ≡ i → ⊥) → cell (set s i 0) k ≡ cell s k = λ k z. get_or-set_other s i k 0 0 z in
-    record {
-      from = omega (arith, c.from);
-      end = c.end;
-      same = length-set s i 0 ∙ c.same;
-      few = omega (arith, c.end);
       zero = λ k lo hi.
-          ⊎_elim (λ (z : k ≡ i). ap (cell (set s i 0)) z ∙ get_or-set_same s i 0 0 (omega (arith, c.end, c.same)))
-          (λ (h : k < i). others k (λ z. omega arith) ∙ c.zero k lo h)
-          (eq-or-lt_of_le (omega arith));
-      before = λ k h. others k (λ z. omega (arith, c.from)) ∙ c.before k h;
-      behind = λ k h. others k (λ z. omega arith) ∙ c.behind k (omega arith);
+          ⊎_elim (λ (h : k < e). inside s z b e order within zeros k (omega arith) h)
+          (λ (h : e ≤ k). behind s z b e order within zeros k h ∙ get_or-eq_default s 0 (omega arith))
+          (cases_lt k e);
+      before = λ k h.
+          ⊎_elim (λ (l : k < b). below s z b e order within zeros k l) (λ (l : b ≤ k). behind s z b e order within zeros k (omega arith)) (cases_lt k b);
+      behind = λ k h. behind s z b e order within zeros k (omega arith);
     }
-
--- a cell past the end of the list is zero
-pub clearing_done : {s₀ s : List ℕ} {a n e i : ℕ} → Clearing s₀ a n e s i → e ≤ i → Clears s₀ a n s
-clearing_done {s₀} {s} {a} {n} {e} {i} c le =
-    record {
-      zero = λ k lo hi. by_place k lo hi (ltb k i) refl;
-      before = c.before;
-      behind = λ k h. c.behind k (omega (arith, c.few));
-    }
-  where
-    by_place : (k : ℕ) → a ≤ k → k < a + n → (b : Bool) → ltb k i ≡ b → cell s k ≡ 0
-    by_place k lo hi true h = c.zero k lo (ltb-true k i h)
-    by_place k lo hi false h = get_or-eq_default s 0 (omega (arith, ltb-false k i h, c.end, c.same))

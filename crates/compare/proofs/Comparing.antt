@@ -1,17 +1,19 @@
 -- Two tables compared row by row: what the loops keep, and that the rows say what the rules' `comparable` says. Assumes nothing.
 use mathlib.Core.Path.{◌≡◌, refl, sym, ap, ap₂, ◌∙◌, subst}
-use mathlib.Core.Bool.{Bool, true, false, not}
+use mathlib.Core.Bool.{Bool, true, false, ◌&&◌}
+use Rattle.std.specs.Prelude.{min}
+use Rattle.std.specs.List.{list_all, range_with_len}
 use mathlib.Core.Logic.{⊎_elim}
-use Prim.Native.Nat.{ℕ, zero, suc, ◌+◌, ◌-◌, ◌≤◌, ◌<◌}
+use Prim.Native.Nat.{ℕ, zero, suc, ◌+◌, ◌-◌, ◌≤◌}
 use native.Mathlib.Omega.{arith}
 use native.Mathlib.Nat.{eq-zero-or-pos}
 use mathlib.Core.List.{List, [], ◌∷◌, map}
 use lib.ListN.{length, drop}
 use lib.Dec.{eqb}
-use borrow.Author.Tests.{eqb-true, eq-eqb, ne_eqb, not-true, not-false}
+use borrow.Author.Tests.{eqb-true, eq-eqb, ne_eqb}
 use Rattle.cells.specs.Part.{run, cell, part, if, eq_list}
 use Rattle.cells.specs.Sum.{Sum}
-use Rattle.cells.proofs.Parts.{run_at, run_length, run_next, run_none, run_whole, eq_list_longer}
+use Rattle.cells.proofs.Parts.{run_at, run_length, eq_list_longer}
 use Rattle.cells.proofs.Choices.{true_false, not_so, if_self}
 use Rattle.layout.specs.Layout.{rows_at}
 use Rattle.rules.specs.Plain.{both}
@@ -24,50 +26,29 @@ use Rattle.laws.proofs.ReadLines.{Long}
 use Rattle.text.specs.Reads.{span}
 use Rattle.text.proofs.Spans.{span_none, span_length}
 use Rattle.table.specs.declared.Table.{Table}
-use Rattle.table.specs.declared.Answer.TheVariants.{Accepted}
+use Rattle.std.specs.Prelude.{Ok}
 use Rattle.table.specs.Rows.{Few, row_at, Laid, table_from, Read}
 use Rattle.prepare.specs.Prepares.{Number, FirstPair, FirstMark, FirstRoot, Budget}
 use Rattle.prepare.proofs.Prepares.{same_table, rows_formed, many}
-use Rattle.prepare.proofs.Facts.{drop_run}
-use Rattle.compare.specs.Compares.{SameCells, Between, SameSpans, words_from, SameRow, SameWords, SameRows, SameCounts, Comparable}
+use Rattle.prepare.proofs.Facts.{drop_run, and_if, cells_from}
+use Rattle.compare.specs.Compares.{SameCells, SameSpans, words_from, SameRow, SameWords, SameRows, SameCounts, Comparable}
 
--- cells of two slices compared: what is left says the same as the whole
-pub record Cells (s : List ℕ) (a : ℕ) (w : List ℕ) (b n i : ℕ) : Type 0 where
-  pub few : i ≤ n
-  pub is : eq_list (part s (a + i) (n - i)) (part w (b + i) (n - i)) ≡ eq_list (part s a n) (part w b n)
-
-pub cells_start : {s : List ℕ} {a : ℕ} {w : List ℕ} {b n : ℕ} → Cells s a w b n 0
-cells_start {s} {a} {w} {b} {n} = record { few = omega arith; is = ap₂ eq_list (run_whole (cell s) a n) (run_whole (cell w) b n) }
-
-module _ {s : List ℕ} {a : ℕ} {w : List ℕ} {b n i : ℕ} (inv : Cells s a w b n i) where
-  pub cells_done : n ≤ i → SameCells s a w b n true
-  cells_done h = record { is = ap₂ eq_list (sym (run_none (cell s) a n i h)) (sym (run_none (cell w) b n i h)) ∙ inv.is }
-
-  module _ {p q x y : ℕ} (lt : i < n) (from : p ≡ a + i) (at : x ≡ cell s p) (to : q ≡ b + i) (beside : y ≡ cell w q) where
-    cells_turn : eq_list (x ∷ part s (a + (i + 1)) (n - (i + 1))) (y ∷ part w (b + (i + 1)) (n - (i + 1))) ≡ eq_list (part s a n) (part w b n)
-    cells_turn =
-        ap₂ {C = Bool} (λ (u v : ℕ). eq_list (u ∷ part s (a + (i + 1)) (n - (i + 1))) (v ∷ part w (b + (i + 1)) (n - (i + 1))))
-        (at ∙ ap (cell s) from) (beside ∙ ap (cell w) to)
-        ∙ ap₂ eq_list (sym (run_next (cell s) a n i lt)) (sym (run_next (cell w) b n i lt))
-        ∙ inv.is
-
-    pub cells_other : (x ≡ y → ⊥) → SameCells s a w b n false
-    cells_other d = record { is = rw (ne_eqb x y d) at cells_turn }
-
-    pub cells_more : x ≡ y → Cells s a w b n (i + 1)
-    cells_more e = record { few = omega arith; is = rw (eq-eqb x y e) at cells_turn }
+pub cells_same : {s : List ℕ} {a : ℕ} {w : List ℕ} {b n : ℕ} {r : Bool}
+    → r ≡ list_all (λ (k : ℕ). eqb (cell s (a + k)) (cell w (b + k))) (range_with_len 0 n) → SameCells s a w b n r
+cells_same {s} {a} {w} {b} {n} e = record {
+  is =
+      e
+      ∙ cells_from s a w b n 0
+      ∙ ap₂ {C = Bool} (λ (j k : ℕ). eq_list (part s j n) (part w k n)) (let z : a + 0 ≡ a = omega arith in z) (let z : b + 0 ≡ b = omega arith in z);
+}
 
 -- spans of two slices
-module _ {s : List ℕ} {a e : ℕ} {w : List ℕ} {b f n m : ℕ} (here : Between a e n) (there : Between b f m) where
-  pub spans_longer : (n ≡ m → ⊥) → SameSpans s a e w b f false
+module _ {s : List ℕ} {a e : ℕ} {w : List ℕ} {b f n m : ℕ} (here : n ≡ e - a) (there : m ≡ f - b) where
+  pub spans_longer : (n ≡ m → ⊥) → SameSpans s a e w b f (eqb n m)
   spans_longer d = record {
-    is = sym (eq_list_longer (span s a e) (span w b f)
-        (λ h. d (here.is ∙ sym (span_length s a e) ∙ h ∙ span_length w b f ∙ sym there.is)));
-  }
-
-  pub spans_same : {r : Bool} → n ≡ m → SameCells s a w b n r → SameSpans s a e w b f r
-  spans_same {r} z c = record {
-    is = c.is ∙ ap₂ eq_list (ap (part s a) here.is) (ap (part w b) (z ∙ there.is));
+    is = ne_eqb n m d
+        ∙ sym (eq_list_longer (span s a e) (span w b f)
+        (λ h. d (here ∙ sym (span_length s a e) ∙ h ∙ span_length w b f ∙ sym there)));
   }
 
 -- the row whose beginning is told at p
@@ -101,80 +82,32 @@ module _ {old table : List ℕ} {p a b c d e f : ℕ} {r : Bool} where
         (behind_first_lem table b d f s' low' ∙ ap₂ {C = List ℕ} (λ (k l : ℕ). drop 1 (span table k l)) from' (to' ∙ ap (cell table) y));
   }
 
--- rows of two tables compared, and those from the i-th on
+-- rows of two tables compared
 abbrev whole : List ℕ → List ℕ → ℕ → ℕ → Bool
 whole old table p n = same eq_list (run (words_from old) p n) (run (words_from table) p n)
 
-abbrev left : List ℕ → List ℕ → ℕ → ℕ → ℕ → Bool
-left old table p n i = whole old table (p + i) (n - i)
+-- p + k, or the greatest number where that does not fit
+abbrev pub nth : ℕ → ℕ → ℕ
+nth p k = min (p + k) 4294967295
 
--- what is left says the same as the whole
-pub record Rows (old table : List ℕ) (p n i : ℕ) : Type 0 where
-  pub few : i ≤ n
-  pub is : p + n ≤ 4294967295 → left old table p n i ≡ whole old table p n
+pub nth_is : {p k q : ℕ} → Sum p k q → q ≡ nth p k
+nth_is {p} {k} {q} s =
+    ⊎_elim (λ h. let z = s.is (omega arith) in omega arith) (λ h. let z = s.full (omega arith) in omega arith)
+    (eq-zero-or-pos (p + k - 4294967295))
 
-pub rows_start : {old table : List ℕ} {p n : ℕ} → Rows old table p n 0
-rows_start {old} {table} {p} {n} = record {
-  few = omega arith;
-  is = λ _. ap₂ (same eq_list) (run_whole (words_from old) p n) (run_whole (words_from table) p n);
+rows_from : (old table : List ℕ) (p n i : ℕ) → p + i + n ≤ 4294967295
+    → list_all (λ (k : ℕ). eq_list (words_from old (nth p k)) (words_from table (nth p k))) (range_with_len i n) ≡ whole old table (p + i) n
+rows_from old table p zero i low = refl
+rows_from old table p (suc n) i low =
+    ap₂ {C = Bool} (λ (q : ℕ) (r : Bool). eq_list (words_from old q) (words_from table q) && r) (let e : nth p i ≡ p + i = omega arith in e)
+    (rows_from old table p n (i + 1) (omega arith) ∙ ap (λ (q : ℕ). whole old table q n) (let e : p + (i + 1) ≡ suc (p + i) = omega arith in e))
+    ∙ and_if (eq_list (words_from old (p + i)) (words_from table (p + i))) (whole old table (suc (p + i)) n)
+
+pub rows_same : {old table : List ℕ} {p n : ℕ} {r : Bool}
+    → r ≡ list_all (λ (k : ℕ). eq_list (words_from old (nth p k)) (words_from table (nth p k))) (range_with_len 0 n) → SameRows old table p n r
+rows_same {old} {table} {p} {n} e = record {
+  is = λ low. e ∙ rows_from old table p n 0 (omega arith) ∙ ap (λ (q : ℕ). whole old table q n) (let z : p + 0 ≡ p = omega arith in z);
 }
-
-module _ {old table : List ℕ} {p n i : ℕ} (inv : Rows old table p n i) where
-  pub rows_done : n ≤ i → SameRows old table p n true
-  rows_done h = record {
-    is = λ low. ap₂ (same eq_list) (sym (run_none (words_from old) p n i h)) (sym (run_none (words_from table) p n i h)) ∙ inv.is low;
-  }
-
-  module _ {q : ℕ} {r : Bool} (lt : i < n) (s : Sum p i q) (h : SameWords old table q r) where
-    rows_turn : p + n ≤ 4294967295 → if r (λ _. left old table p n (i + 1)) (λ _. false) ≡ whole old table p n
-    rows_turn low =
-        let z : q ≡ p + i = s.is (omega arith) in
-        ap (λ (b : Bool). if b (λ _. left old table p n (i + 1)) (λ _. false))
-        (h.is ∙ ap (λ (k : ℕ). eq_list (words_from old k) (words_from table k)) z)
-        ∙ ap₂ (same eq_list) (sym (run_next (words_from old) p n i lt)) (sym (run_next (words_from table) p n i lt))
-        ∙ inv.is low
-
-    pub rows_other : not r ≡ true → SameRows old table p n false
-    rows_other e = record { is = λ low. rw (not-true r e) at (rows_turn low) }
-
-    pub rows_more : not r ≡ false → Rows old table p n (i + 1)
-    rows_more e = record { few = omega arith; is = λ low. rw (not-false r e) at (rows_turn low) }
-
--- the counts of two tables
-module _ {u t : Table} where
-  pub names_differ : (u.names ≡ t.names → ⊥) → SameCounts u t false
-  names_differ h = record { is = rw (ne_eqb u.names t.names h) }
-
-  module _ (names : u.names ≡ t.names) where
-    pub entries_differ : (u.entries ≡ t.entries → ⊥) → SameCounts u t false
-    entries_differ h = record { is = rw (eq-eqb u.names t.names names, ne_eqb u.entries t.entries h) }
-
-    module _ (entries : u.entries ≡ t.entries) where
-      pub pairs_differ : (u.pairs ≡ t.pairs → ⊥) → SameCounts u t false
-      pairs_differ h = record {
-        is = rw (eq-eqb u.names t.names names, eq-eqb u.entries t.entries entries, ne_eqb u.pairs t.pairs h);
-      }
-
-      module _ (pairs : u.pairs ≡ t.pairs) where
-        pub marks_differ : (u.marks ≡ t.marks → ⊥) → SameCounts u t false
-        marks_differ h = record {
-          is = rw (
-            eq-eqb u.names t.names names,
-            eq-eqb u.entries t.entries entries,
-            eq-eqb u.pairs t.pairs pairs,
-            ne_eqb u.marks t.marks h,
-          );
-        }
-
-        pub roots_decide : u.marks ≡ t.marks → SameCounts u t (eqb u.roots t.roots)
-        roots_decide marks = record {
-          is = rw (
-            eq-eqb u.names t.names names,
-            eq-eqb u.entries t.entries entries,
-            eq-eqb u.pairs t.pairs pairs,
-            eq-eqb u.marks t.marks marks,
-          );
-        }
 
 -- equal counts are the same counts
 counts_same : {u t : Table} → SameCounts u t true → u ≡ t
@@ -258,7 +191,7 @@ record Sheet (w : List ℕ) (t : Table) (T : rules.Table) : Type 0 where
   marks_long : Every (Long 1) (marks w t)
   roots_long : Every (Long 2) (roots w t)
 
-sheet : {text w : List ℕ} {t : Table} {T : rules.Table} → Read text w (Accepted t) → table_of text ≡ accepted T → Sheet w t T
+sheet : {text w : List ℕ} {t : Table} {T : rules.Table} → Read text w (Ok t) → table_of text ≡ accepted T → Sheet w t T
 unfolding table_from
 sheet {text} {w} {t} {T} r e =
     let is : T ≡ from_sections (table_from t w) = same_table text w t T r e in
@@ -334,9 +267,15 @@ module _ {old table : List ℕ} {u t : Table} where
   agree_counts a =
       let many : (p q n m : ℕ) → same eq_list (run (words_from old) p n) (run (words_from table) q m) ≡ true → n ≡ m =
       as_many (words_from old) (words_from table) in
-      subst (SameCounts u t) (eq-eqb u.roots t.roots (many _ _ u.roots t.roots a.rooted))
-      (roots_decide (many _ _ u.names t.names a.named) a.entries (many _ _ u.pairs t.pairs a.paired)
-      (many _ _ u.marks t.marks a.marked))
+      record {
+        is = rw (
+          eq-eqb u.names t.names (many _ _ u.names t.names a.named),
+          eq-eqb u.entries t.entries a.entries,
+          eq-eqb u.pairs t.pairs (many _ _ u.pairs t.pairs a.paired),
+          eq-eqb u.marks t.marks (many _ _ u.marks t.marks a.marked),
+          eq-eqb u.roots t.roots (many _ _ u.roots t.roots a.rooted),
+        );
+      }
 
 -- two tables of which the rows cannot agree
 differ : {old table : List ℕ} {u t : Table} → (Laid u old → Laid t table → Agree old u table t → ⊥) → Comparable old u table t false
@@ -346,8 +285,8 @@ differ {old} {table} {u} {t} f = record {
 }
 
 module _ {old table : List ℕ} {u t : Table} where
-  pub counts_other : {c : Bool} → SameCounts u t c → not c ≡ true → Comparable old u table t false
-  counts_other {c} s e = differ (λ l₁ l₂ a. true_false ((agree_counts a).is ∙ sym s.is ∙ not-true c e))
+  pub counts_other : {c : Bool} → SameCounts u t c → c ≡ false → Comparable old u table t false
+  counts_other s e = differ (λ l₁ l₂ a. true_false ((agree_counts a).is ∙ sym s.is ∙ e))
 
 -- rows at a place and of a number that are known
 at_place : {old table : List ℕ} {p n : ℕ} {r : Bool} (q m : ℕ) → SameRows old table p n r → p ≡ q → n ≡ m → q + m ≤ 4294967295
@@ -383,37 +322,38 @@ module _ {old table : List ℕ} {t : Table} where
       let w : t.marks ≤ most_marks = f.marks in let v : t.roots ≤ most_roots = f.roots in
       at_place (rows_at + 1 + t.names + t.entries + t.pairs + t.marks) t.roots s (q.is f) (k.is (omega arith)) (omega arith)
 
-module _ {old table : List ℕ} {u t : Table} {c : Bool} (counts : SameCounts u t c) (counted : not c ≡ false) where
+module _ {old table : List ℕ} {u t : Table} {c : Bool} (counts : SameCounts u t c) (counted : c ≡ true) where
   -- as many of each: one table of counts
   one : {r : Bool} → Comparable old t table t r → Comparable old u table t r
-  one {r} h = subst (λ (v : Table). Comparable old v table t r) (sym (counts_same (subst (SameCounts u t) (not-false c counted) counts))) h
+  one {r} h = subst (λ (v : Table). Comparable old v table t r) (sym (counts_same (subst (SameCounts u t) counted counts))) h
 
   module _ {b d : ℕ} (mine : Budget old b) (yours : Budget table d) where
-    pub budget_other : (b ≡ d → ⊥) → Comparable old u table t false
-    budget_other apart = one (differ (λ l₁ l₂ a. apart (mine.is (l₁.within 0 (omega arith)) ∙ a.budgets ∙ sym (yours.is (l₂.within 0 (omega arith))))))
+    pub budget_other : eqb b d ≡ false → Comparable old u table t false
+    budget_other e = one (differ (λ l₁ l₂ a.
+        true_false (sym (eq-eqb b d (mine.is (l₁.within 0 (omega arith)) ∙ a.budgets ∙ sym (yours.is (l₂.within 0 (omega arith))))) ∙ e)))
 
     module _ {m : ℕ} {x : Bool} (budgets : b ≡ d) (m-is : Number t.names m) (x-is : SameRows old table (rows_at + 1) m x) where
-      pub names_other : not x ≡ true → Comparable old u table t false
-      names_other e = one (differ (λ l₁ l₂ a. true_false (sym a.named ∙ sym (named_by l₂.few m-is x-is) ∙ not-true x e)))
+      pub names_other : x ≡ false → Comparable old u table t false
+      names_other e = one (differ (λ l₁ l₂ a. true_false (sym a.named ∙ sym (named_by l₂.few m-is x-is) ∙ e)))
 
-      module _ {p n : ℕ} {y : Bool} (named : not x ≡ false) (p-is : FirstPair t p) (n-is : Number t.pairs n) (y-is : SameRows old table p n y) where
-        pub pairs_other : not y ≡ true → Comparable old u table t false
-        pairs_other e = one (differ (λ l₁ l₂ a. true_false (sym a.paired ∙ sym (paired_by l₂.few p-is n-is y-is) ∙ not-true y e)))
+      module _ {p n : ℕ} {y : Bool} (named : x ≡ true) (p-is : FirstPair t p) (n-is : Number t.pairs n) (y-is : SameRows old table p n y) where
+        pub pairs_other : y ≡ false → Comparable old u table t false
+        pairs_other e = one (differ (λ l₁ l₂ a. true_false (sym a.paired ∙ sym (paired_by l₂.few p-is n-is y-is) ∙ e)))
 
-        module _ {q k : ℕ} {z : Bool} (paired : not y ≡ false) (q-is : FirstMark t q) (k_is : Number t.marks k) (z-is : SameRows old table q k z) where
-          pub marks_other : not z ≡ true → Comparable old u table t false
-          marks_other e = one (differ (λ l₁ l₂ a. true_false (sym a.marked ∙ sym (marked_by l₂.few q-is k_is z-is) ∙ not-true z e)))
+        module _ {q k : ℕ} {z : Bool} (paired : y ≡ true) (q-is : FirstMark t q) (k_is : Number t.marks k) (z-is : SameRows old table q k z) where
+          pub marks_other : z ≡ false → Comparable old u table t false
+          marks_other e = one (differ (λ l₁ l₂ a. true_false (sym a.marked ∙ sym (marked_by l₂.few q-is k_is z-is) ∙ e)))
 
-          pub roots_last : {f l : ℕ} {r : Bool} → not z ≡ false → FirstRoot t f → Number t.roots l → SameRows old table f l r → Comparable old u table t r
+          pub roots_last : {f l : ℕ} {r : Bool} → z ≡ true → FirstRoot t f → Number t.roots l → SameRows old table f l r → Comparable old u table t r
           roots_last {r = r} marked f-is l-is r-is = one (record {
             is = λ r₁ e₁ r₂ e₂.
                 let s₁ = sheet r₁ e₁ in let s₂ = sheet r₂ e₂ in
                 let l₁ : Laid t old = r₁.laid in let l₂ : Laid t table = r₂.laid in let few = l₂.few in
                 let same-budget = sym (eq-eqb _ _ (sym (mine.is (l₁.within 0 (omega arith))) ∙ budgets ∙ yours.is (l₂.within 0 (omega arith)))) in
                 let same_entries = sym (eq-eqb t.entries t.entries refl) in
-                let same_names = sym (not-false x named) ∙ named_by few m-is x-is in
-                let same-pairs = sym (not-false y paired) ∙ paired_by few p-is n-is y-is in
-                let same-marks = sym (not-false z marked) ∙ marked_by few q-is k_is z-is in
+                let same_names = sym named ∙ named_by few m-is x-is in
+                let same-pairs = sym paired ∙ paired_by few p-is n-is y-is in
+                let same-marks = sym marked ∙ marked_by few q-is k_is z-is in
                 let same-roots = rooted_by few f-is l-is r-is in
                 (λ i. both (same-budget i) (λ _. both (same_entries i) (λ _. both (same_names i) (λ _. both (same-pairs i)
                 (λ _. both (same-marks i) (λ _. same-roots i))))))
@@ -421,7 +361,7 @@ module _ {old table : List ℕ} {u t : Table} {c : Bool} (counts : SameCounts u 
           })
 
 -- tables that may be compared have as many lines of each kind
-pub same_counts : {text₁ text₂ old table : List ℕ} {u t : Table} {T₁ T₂ : rules.Table} → Read text₁ old (Accepted u) → table_of text₁ ≡ accepted T₁
-    → Read text₂ table (Accepted t) → table_of text₂ ≡ accepted T₂ → comparable T₁ T₂ ≡ true → u ≡ t
+pub same_counts : {text₁ text₂ old table : List ℕ} {u t : Table} {T₁ T₂ : rules.Table} → Read text₁ old (Ok u) → table_of text₁ ≡ accepted T₁
+    → Read text₂ table (Ok t) → table_of text₂ ≡ accepted T₂ → comparable T₁ T₂ ≡ true → u ≡ t
 same_counts {old = old} {table = table} r₁ e₁ r₂ e₂ h =
     counts_same (agree_counts {old = old} {table = table} (agree (sym (by_rows_lem (sheet r₁ e₁) (sheet r₂ e₂)) ∙ h)))

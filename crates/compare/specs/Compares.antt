@@ -1,5 +1,5 @@
 -- Two tables side by side, row by row: what the functions ensure.
-use Rattle.std.specs.Prelude.{◌≡◌, Bool, ℕ, ◌+◌, ◌-◌, ◌≤◌, List, drop, eqb}
+use Rattle.std.specs.Prelude.{◌≡◌, Bool, ℕ, ◌+◌, ◌≤◌, List, drop, eqb}
 use Rattle.cells.specs.Part.{run, cell, part, eq_list}
 use Rattle.rules.specs.Plain.{both}
 use Rattle.rules.specs.Table.{accepted, table_of}
@@ -7,14 +7,11 @@ use Rattle.rules.specs.Table as rules
 use Rattle.rules.specs.Calls.{same, comparable}
 use Rattle.text.specs.Reads.{span}
 use Rattle.table.specs.declared.Table.{Table}
-use Rattle.table.specs.declared.Answer.TheVariants.{Accepted}
+use Rattle.std.specs.Prelude.{Ok}
 use Rattle.table.specs.Rows.{Read}
 
 pub record SameCells (s : List ℕ) (a : ℕ) (w : List ℕ) (b n : ℕ) (r : Bool) : Type 0 where
   pub is : r ≡ eq_list (part s a n) (part w b n)
-
-pub record Between (from to r : ℕ) : Type 0 where
-  pub is : r ≡ to - from
 
 pub record SameSpans (s : List ℕ) (a e : ℕ) (w : List ℕ) (b f : ℕ) (r : Bool) : Type 0 where
   pub is : r ≡ eq_list (span s a e) (span w b f)
@@ -46,5 +43,5 @@ pub record SameCounts (u t : Table) (r : Bool) : Type 0 where
 
 -- not 10, of two tables that were read
 pub record Comparable (old : List ℕ) (u : Table) (table : List ℕ) (t : Table) (r : Bool) : Type 0 where
-  pub is : {text₁ text₂ : List ℕ} {T₁ T₂ : rules.Table} → Read text₁ old (Accepted u) → table_of text₁ ≡ accepted T₁
-      → Read text₂ table (Accepted t) → table_of text₂ ≡ accepted T₂ → r ≡ comparable T₁ T₂
+  pub is : {text₁ text₂ : List ℕ} {T₁ T₂ : rules.Table} → Read text₁ old (Ok u) → table_of text₁ ≡ accepted T₁
+      → Read text₂ table (Ok t) → table_of text₂ ≡ accepted T₂ → r ≡ comparable T₁ T₂

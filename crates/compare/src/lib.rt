@@ -1,7 +1,7 @@
 // The rows of an old and a new table compared.
 #![tactic(auto)]
 
-ghost use Rattle.compare.specs.Compares.{SameCells, Between, SameSpans, SameRow, SameWords, SameRows, SameCounts, Comparable};
+ghost use Rattle.compare.specs.Compares.{SameCells, SameSpans, SameRow, SameWords, SameRows, SameCounts, Comparable};
 
 use cells::{add, at, get, place};
 use layout::TableSlice;
@@ -12,32 +12,15 @@ use table::Table;
 fn same_cells(s: &[u32], a: u32, w: &[u32], b: u32, n: u32) -> bool
     ensures { SameCells s.now a w.now b n result }
 {
-    let mut i = 0;
-    while i < n {
-        if get(s, place(a, i)) != get(w, place(b, i)) {
-            return false;
-        }
-        i += 1;
-    }
-    true
-}
-
-// How many cells lie between two places of a table.
-fn between(from: u32, to: u32) -> u32
-    ensures { Between from to result }
-{
-    if from < to { to - from } else { 0 }
+    (0..n).all(|i| get(s, place(a, i)) == get(w, place(b, i)))
 }
 
 // Whether the cells of s from a up to e are those of w from b up to f.
 fn same_spans(s: &[u32], a: u32, e: u32, w: &[u32], b: u32, f: u32) -> bool
     ensures { SameSpans s.now a e w.now b f result }
 {
-    let n = between(a, e);
-    if n != between(b, f) {
-        return false;
-    }
-    same_cells(s, a, w, b, n)
+    let n = e.saturating_sub(a);
+    n == f.saturating_sub(b) && same_cells(s, a, w, b, n)
 }
 
 // Whether the row whose beginning is told at p is the same in both tables.
@@ -69,53 +52,28 @@ fn same_words(old: &[u32], table: &[u32], p: u32) -> bool
 fn same_rows(old: &[u32], table: &[u32], p: u32, n: u32) -> bool
     ensures { SameRows old.now table.now p n result }
 {
-    let mut i = 0;
-    while i < n {
-        if !same_words(old, table, add(p, i)) {
-            return false;
-        }
-        i += 1;
-    }
-    true
+    (0..n).all(|i| same_words(old, table, add(p, i)))
 }
 
 // Whether both tables have as many lines of each kind.
 fn same_counts(u: Table, t: Table) -> bool
     ensures { SameCounts u t result }
 {
-    if u.names != t.names {
-        return false;
-    }
-    if u.entries != t.entries {
-        return false;
-    }
-    if u.pairs != t.pairs {
-        return false;
-    }
-    if u.marks != t.marks {
-        return false;
-    }
-    u.roots == t.roots
+    u.names == t.names
+        && u.entries == t.entries
+        && u.pairs == t.pairs
+        && u.marks == t.marks
+        && u.roots == t.roots
 }
 
 // Whether nothing of "budget, n, or a name, pair, mark or root line differs".
 pub fn comparable(old: &[u32], u: Table, table: &[u32], t: Table) -> bool
     ensures { Comparable old.now u table.now t result }
 {
-    if !same_counts(u, t) {
-        return false;
-    }
-    if budget(old) != budget(table) {
-        return false;
-    }
-    if !same_rows(old, table, TableSlice::ROWS + 1, number(t.names)) {
-        return false;
-    }
-    if !same_rows(old, table, first_pair(t), number(t.pairs)) {
-        return false;
-    }
-    if !same_rows(old, table, first_mark(t), number(t.marks)) {
-        return false;
-    }
-    same_rows(old, table, first_root(t), number(t.roots))
+    same_counts(u, t)
+        && budget(old) == budget(table)
+        && same_rows(old, table, TableSlice::ROWS + 1, number(t.names))
+        && same_rows(old, table, first_pair(t), number(t.pairs))
+        && same_rows(old, table, first_mark(t), number(t.marks))
+        && same_rows(old, table, first_root(t), number(t.roots))
 }

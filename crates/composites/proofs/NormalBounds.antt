@@ -1,4 +1,5 @@
 -- Bounds expanded, after their visits. Assumes nothing.
+use Rattle.std.specs.Prelude.{Option}
 use mathlib.Core.Path.{◌≡◌, refl, sym, ap, ◌∙◌, subst}
 use mathlib.Core.Bool.{Bool, true, false}
 use Prim.Native.Nat.{ℕ}
@@ -15,18 +16,17 @@ use Rattle.rules.specs.declared.Polarity.{Polarity}
 use Rattle.rules.specs.declared.Polarity.TheVariants.{Positive, Negative}
 use Rattle.laws.proofs.Keeping.{Keeps, refused_not, gave, later_under, keeps_flattened, keeps_merge, keeps_factor}
 use Rattle.lang_ty.specs.declared.arena.Pass.{Pass}
-use Rattle.lang_ty.specs.declared.arena.Given.{Given}
-use Rattle.lang_ty.specs.declared.arena.Found.{Found}
+use Rattle.lang_ty.specs.Given.{Given}
 use Rattle.lang_ty.specs.Nodes.{Stored}
 use Rattle.storage.specs.declared.given.Canon.{Canon}
 use Rattle.members.specs.declared.lists.Members.{Members}
-use Rattle.members.specs.declared.lists.Flow.{Flow}
-use Rattle.members.specs.declared.lists.Flow.TheVariants.{On, Refused}
-use Rattle.members.specs.declared.lists.Listed.{Listed}
+use Rattle.members.specs.Flow.{Flow}
+use Rattle.members.specs.Flow.{On, Refused}
+use Rattle.members.specs.Listed.{Listed}
 use Rattle.members.specs.Lists.{Makes, Tests, Runs, stays, sift, DropsFillers}
 use Rattle.merge.specs.Merges.{MergesSets}
-use Rattle.composites.specs.declared.lists.Settled.{Settled}
-use Rattle.composites.specs.declared.lists.Settled.TheVariants.{Refused as RefusedS}
+use Rattle.composites.specs.Settled.{Settled}
+use Rattle.composites.specs.Settled.{Refused as RefusedS}
 use Rattle.composites.specs.Places.{HeldFlow, Visited, FirstIs, Normalizes}
 use Rattle.composites.specs.Lists.{Soundly, Leads, Flattens, AsSettled, SettlesListed, FirstMember, SettlesUnion, merged_end, SettlesMerged}
 use Rattle.composites.proofs.Settled.{bind_both, bind_of, settles_of, goes_on, stops, taken_nodes, stores_bottom}
@@ -42,14 +42,14 @@ module _ (o : Out (List ℕ)) (f : List ℕ → Run (List ℕ)) (k : (xs : List 
   pub soundly_step : Soundly o → Soundly (bind o f)
   soundly_step s = step_by Sound (λ xs st e ys st' h. (k xs st ys st' h).sound (s xs st e)) o refl
 
-  pub leads_step : {ys : List ℕ} {y : Found} → Leads o ys y → Leads (bind o f) ys y
+  pub leads_step : {ys : List ℕ} {y : Option ℕ} → Leads o ys y → Leads (bind o f) ys y
   leads_step {ys} {y} l =
       record {
         below = step_by (λ st. Under (length st.nodes) ys) (λ xs st e zs st' h. later_under ys (k xs st zs st' h) (l.below xs st e)) o refl;
         first = step_by (λ st. FirstIs ys y) (λ xs st e zs st' h. l.first xs st e) o refl;
       }
 
-pub leads_now : {ys : List ℕ} {y : Found} (xs : List ℕ) (st : State) → Under (length st.nodes) ys → FirstIs ys y → Leads (ok xs st) ys y
+pub leads_now : {ys : List ℕ} {y : Option ℕ} (xs : List ℕ) (st : State) → Under (length st.nodes) ys → FirstIs ys y → Leads (ok xs st) ys y
 leads_now {ys} xs st under first = record { below = λ zs st' e. gave (λ _ st. Under (length st.nodes) ys) e under; first = λ zs st' e. first }
 
 -- answers that were visited leave a sound state
@@ -69,7 +69,7 @@ merged_rest functor rest b xs =
       ys ← factor_shared_from_intersection xs
       settle false rest Intersection ys)
 
-module _ {c : Canon} {w : List ℕ} {l : Listed} {y : Found} {q : Pass} {m : Members} {b : Bool} where
+module _ {c : Canon} {w : List ℕ} {l : Listed} {y : Option ℕ} {q : Pass} {m : Members} {b : Bool} where
   pub merged_contradicts : {w' : List ℕ} {g : Given} {r : Settled} → l.flow ≡ On q → Makes (remove_redundant_negations c.functor) w l.members m
       → Tests (has_type_contradiction c.functor) w m b → b ≡ true → Stored (9 ∷ []) 0 w q w' g → AsSettled g r → SettlesMerged c w l y w' r
   merged_contradicts {w'} e f t z h a =
@@ -104,7 +104,7 @@ module _ {c : Canon} {w : List ℕ} {l : Listed} {y : Found} {q : Pass} {m : Mem
             (leads_now xs st (leads.below g.list st g.is) (leads.first g.list st g.is))));
       }
 
-pub merged_off : {c : Canon} {w : List ℕ} {l : Listed} {y : Found} {k : ℕ} → l.flow ≡ Refused k → SettlesMerged c w l y w (RefusedS k)
+pub merged_off : {c : Canon} {w : List ℕ} {l : Listed} {y : Option ℕ} {k : ℕ} → l.flow ≡ Refused k → SettlesMerged c w l y w (RefusedS k)
 merged_off {c} {w} {l} e = record { is = λ o ys x leads. record { is = λ rest. bind_of (merged_end c.functor (rest ys)) (stops o w l e x) } }
 
 -- the ways of `settle_intersection`
@@ -114,7 +114,7 @@ bounds_rest p pol rest ys = do
   normalized p (rest ys) pol ms
 
 module _ {table w work : List ℕ} {c : Canon} {h n : ℕ} {f : Flow} {all : Listed} where
-  pub intersection_on : {q : Pass} {m : Members} {y : Found} {w' work' w'' : List ℕ} {one : Listed} {r : Settled} → Flattens 6 w work h n f all → all.flow ≡ On q
+  pub intersection_on : {q : Pass} {m : Members} {y : Option ℕ} {w' work' w'' : List ℕ} {one : Listed} {r : Settled} → Flattens 6 w work h n f all → all.flow ≡ On q
       → DropsFillers table preserved_at c.count w all.members m → MergesSets w work h q m w' work' one → FirstMember all.members y → SettlesMerged c w' one y w'' r
       → Normalizes table c w work h n f Negative w'' work' r
   intersection_on flat e conc merges first z =

@@ -1,4 +1,5 @@
 -- Answers flattened, without fillers, and settled as a node. Assumes nothing.
+use Rattle.std.specs.Prelude.{Option, Some, None}
 use mathlib.Core.Path.{◌≡◌, refl, sym, ap, ◌∙◌, subst}
 use mathlib.Core.Bool.{Bool, true, false, not}
 use mathlib.Core.Logic.{⊎_elim}
@@ -21,21 +22,19 @@ use Rattle.rules.specs.Canonicalizer as runs
 use Rattle.rules.specs.declared.Polarity.{Polarity}
 use Rattle.rules.specs.declared.Polarity.TheVariants.{Positive, Negative}
 use Rattle.lang_ty.specs.declared.arena.Pass.{Pass}
-use Rattle.lang_ty.specs.declared.arena.Given.{Given}
-use Rattle.lang_ty.specs.declared.arena.Given.TheVariants.{Node as NodeG, Refused as RefusedG}
-use Rattle.lang_ty.specs.declared.arena.Found.{Found}
-use Rattle.lang_ty.specs.declared.arena.Found.TheVariants.{At, Nowhere}
+use Rattle.lang_ty.specs.Given.{Given}
+use Rattle.lang_ty.specs.Given.{Node as NodeG, Refused as RefusedG}
 use Rattle.lang_ty.specs.Nodes.{Stands, Stored, Lists as ListNode, Listed as ListedNode, Answers as Stores}
 use Rattle.storage.specs.declared.given.Canon.{Canon}
 use Rattle.members.specs.declared.lists.Members.{Members}
-use Rattle.members.specs.declared.lists.Flow.{Flow}
-use Rattle.members.specs.declared.lists.Flow.TheVariants.{On, Refused}
-use Rattle.members.specs.declared.lists.Listed.{Listed}
-use Rattle.members.specs.Lists.{Few, Lists, Taken, Makes, Gives, AnswersFlow, Answers, Refuses, stays, sift, DropsFillers}
+use Rattle.members.specs.Flow.{Flow}
+use Rattle.members.specs.Flow.{On, Refused}
+use Rattle.members.specs.Listed.{Listed}
+use Rattle.members.specs.Lists.{Few, Lists, Taken, Makes, Gives, AnswersFlow, Answers, stays, sift, DropsFillers}
 use Rattle.members.specs.Flattens.{Spreads}
 use Rattle.members.proofs.Gathered.{wraps_union, wraps_intersection, taken_list}
-use Rattle.composites.specs.declared.lists.Settled.{Settled}
-use Rattle.composites.specs.declared.lists.Settled.TheVariants.{Node as NodeS, Empty as EmptyS, Refused as RefusedS}
+use Rattle.composites.specs.Settled.{Settled}
+use Rattle.composites.specs.Settled.{Node as NodeS, Empty as EmptyS, Refused as RefusedS}
 use Rattle.composites.specs.Places.{GivenTo, Held, HeldFlow, FirstIs, Settles, union_end, UnionOf}
 use Rattle.composites.specs.Lists.{Flattens, WithoutFillers, union_members, TopIfEmptied, SettlesList, AsSettled, SettlesListed, FirstOrBottom, OrFirst, FirstMember, SettlesUnion}
 use Rattle.cells.specs.Placed.{Under}
@@ -69,8 +68,8 @@ module _ (o : Out (List ℕ)) (w : List ℕ) (l : Listed) where
   pub stops : {k : ℕ} → l.flow ≡ Refused k → Answers o w l → o ≡ no k
   stops e a = subst (λ (x : Flow). AnswersFlow o w l.members x) e a
 
-  stopped : {k : ℕ} → Refuses k l → o ≡ no k → Answers o w l
-  stopped f e = subst (λ (x : Flow). AnswersFlow o w l.members x) (sym f.is) e
+  stopped : {k : ℕ} → l.flow ≡ Refused k → o ≡ no k → Answers o w l
+  stopped f e = subst (λ (x : Flow). AnswersFlow o w l.members x) (sym f) e
 
 pub taken_nodes : {st : State} {w : List ℕ} {q : Pass} {m : Members} {xs : List ℕ} → Stands st w q → Taken m xs (length st.nodes) → Taken m xs q.nodes
 taken_nodes {m = m} {xs} on t = subst (λ (k : ℕ). Taken m xs k) on.arena.count t
@@ -124,11 +123,7 @@ module _ (kind : ℕ) {w work : List ℕ} {h n : ℕ} where
         }
 
 module _ {kind : ℕ} {w work : List ℕ} {h n : ℕ} {f : Flow} where
-  pub flat_refused : {k : ℕ} {r : Listed} → f ≡ Refused k → Refuses k r → Flattens kind w work h n f r
-  flat_refused {k} {r} e z =
-      record { is = λ o v. stopped (bind o (flattened kind)) w r z (bind_of (flattened kind) (subst (λ (x : Flow). HeldFlow o w work h n x) e v.is)) }
-
-  pub flat_many : {q : Pass} {r : Listed} → f ≡ On q → most_members < n → Refuses 7 r → Flattens kind w work h n f r
+  pub flat_many : {q : Pass} {r : Listed} → f ≡ On q → most_members < n → r.flow ≡ Refused 7 → Flattens kind w work h n f r
   flat_many {r = r} e lt z =
       flat_by kind f e
       (λ o d.
@@ -137,7 +132,7 @@ module _ {kind : ℕ} {w work : List ℕ} {h n : ℕ} {f : Flow} where
       ∙ bind_of (λ ms st. limit (flatten_composite kind st.nodes ms) st) (limit_many d.list d.after (omega (arith, d.count)))))
 
   pub flat_over : {q : Pass} {a m : Members} {r : Listed} → f ≡ On q → n ≤ most_members → Lists a (part work h n) → Spreads (flatten_composite kind) w a m → most_members < m.count
-      → Refuses 7 r → Flattens kind w work h n f r
+      → r.flow ≡ Refused 7 → Flattens kind w work h n f r
   flat_over {r = r} e le l p lt z = flat_by kind f e (λ o d. stopped (bind o (flattened kind)) w r z (out_over kind le l p d lt))
 
   pub flat_on : {q : Pass} {a m : Members} → f ≡ On q → n ≤ most_members → Lists a (part work h n) → Spreads (flatten_composite kind) w a m → m.count ≤ most_members
@@ -222,7 +217,7 @@ head_below : {m : Members} {k : ℕ} (xs : List ℕ) → Taken m xs k → m.coun
 head_below [] t e = absurd (omega (arith, t.list.count))
 head_below (x ∷ xs) t e = let b = t.below.0 in omega (arith, holds_head t.list.holds)
 
-module _ {kind : ℕ} {w : List ℕ} {q : Pass} {m : Members} {cancelled : Bool} {y : Found} where
+module _ {kind : ℕ} {w : List ℕ} {q : Pass} {m : Members} {cancelled : Bool} {y : Option ℕ} where
   pub settle_sole : {x : ℕ} → m.count ≡ 1 → x ≡ cell m.at 0 → SettlesList kind w q m cancelled y w (NodeS x q)
   settle_sole {x} e f =
       record {
@@ -272,7 +267,7 @@ module _ {kind : ℕ} {w : List ℕ} {q : Pass} {m : Members} {cancelled : Bool}
       }
 
 -- the ways of `settle_listed`
-module _ {w : List ℕ} {l : Listed} {cancelled : Bool} {y : Found} where
+module _ {w : List ℕ} {l : Listed} {cancelled : Bool} {y : Option ℕ} where
   pub listed_on : {q : Pass} {w' : List ℕ} {r : Settled} → l.flow ≡ On q → SettlesList 6 w q l.members cancelled y w' r → SettlesListed w l cancelled y w' r
   listed_on e z =
       record {
@@ -286,22 +281,22 @@ module _ {w : List ℕ} {l : Listed} {cancelled : Bool} {y : Found} where
   listed_off e = record { is = λ o ys a leads. record { is = λ rest. bind_of (settle cancelled (rest ys) Intersection) (stops o w l e a) } }
 
 -- the ways of `first_or_bottom`
-first_node : {st : State} {w : List ℕ} {q : Pass} {y : Found} {x : ℕ} (ys : List ℕ) → y ≡ At x → Stands st w q → Under (length st.nodes) ys → FirstIs ys y
+first_node : {st : State} {w : List ℕ} {q : Pass} {y : Option ℕ} {x : ℕ} (ys : List ℕ) → y ≡ Some x → Stands st w q → Under (length st.nodes) ys → FirstIs ys y
     → Stores (first_member ys st) w (NodeG x q)
 first_node [] e on under first = let z : ◌≡◌ {A = ℕ} 0 1 = cc in absurd (omega arith)
 first_node {st} {x = x} (z ∷ ys) e on under first =
     let same : z ≡ x = cc in
     record { is = record { after = st; is = ap (λ (y : ℕ). ok y st) same; stands = on; below = subst (λ (y : ℕ). y < length st.nodes) same under.0 } }
 
-first_bottom : {st : State} {w w' : List ℕ} {q : Pass} {y : Found} {g : Given} (ys : List ℕ) → y ≡ Nowhere → Stored (9 ∷ []) 0 w q w' g → Stands st w q → FirstIs ys y
+first_bottom : {st : State} {w w' : List ℕ} {q : Pass} {y : Option ℕ} {g : Given} (ys : List ℕ) → y ≡ None → Stored (9 ∷ []) 0 w q w' g → Stands st w q → FirstIs ys y
     → Stores (first_member ys st) w' g
 first_bottom [] e h on first = stores_bottom h on
 first_bottom (z ∷ ys) e h on first = let z : ◌≡◌ {A = ℕ} 0 1 = cc in absurd (omega arith)
 
-pub first_there : {w : List ℕ} {y : Found} {q : Pass} {x : ℕ} → y ≡ At x → FirstOrBottom w y q w (NodeG x q)
+pub first_there : {w : List ℕ} {y : Option ℕ} {q : Pass} {x : ℕ} → y ≡ Some x → FirstOrBottom w y q w (NodeG x q)
 first_there e = record { is = λ ys on under first. first_node ys e on under first }
 
-pub first_none : {w w' : List ℕ} {y : Found} {q : Pass} {g : Given} → y ≡ Nowhere → Stored (9 ∷ []) 0 w q w' g → FirstOrBottom w y q w' g
+pub first_none : {w w' : List ℕ} {y : Option ℕ} {q : Pass} {g : Given} → y ≡ None → Stored (9 ∷ []) 0 w q w' g → FirstOrBottom w y q w' g
 first_none e h = record { is = λ ys on under first. first_bottom ys e h on first }
 
 -- the ways of `or_first`
@@ -313,7 +308,7 @@ or_node {w} e =
           record { is = record { after = b.after; is = b.is first_member; stands = b.stands; below = b.below } };
     }
 
-pub or_empty : {w w' : List ℕ} {z : Settled} {y : Found} {q : Pass} {g : Given} → z ≡ EmptyS y q → FirstOrBottom w y q w' g → OrFirst w z w' g
+pub or_empty : {w w' : List ℕ} {z : Settled} {y : Option ℕ} {q : Pass} {g : Given} → z ≡ EmptyS y q → FirstOrBottom w y q w' g → OrFirst w z w' g
 or_empty {w} e h =
     record {
       is = λ f a.
@@ -325,18 +320,18 @@ pub or_refused : {w : List ℕ} {z : Settled} {k : ℕ} → z ≡ RefusedS k →
 or_refused {w} e = record { is = λ f a. record { is = (subst (λ (r : Settled). Settles f w r) e a).is first_member } }
 
 -- the ways of `first_of`
-first_is_none : {m : Members} (xs : List ℕ) → Few m xs → m.count ≡ 0 → FirstIs xs Nowhere
+first_is_none : {m : Members} (xs : List ℕ) → Few m xs → m.count ≡ 0 → FirstIs xs None
 first_is_none [] few e = refl
 first_is_none (x ∷ xs) few e = absurd (omega (arith, few.count))
 
-first_is_head : {m : Members} {x : ℕ} (xs : List ℕ) → Few m xs → (m.count ≡ 0 → ⊥) → x ≡ cell m.at 0 → FirstIs xs (At x)
+first_is_head : {m : Members} {x : ℕ} (xs : List ℕ) → Few m xs → (m.count ≡ 0 → ⊥) → x ≡ cell m.at 0 → FirstIs xs (Some x)
 first_is_head [] few e f = absurd (e few.count)
-first_is_head (x ∷ xs) few e f = ap At (f ∙ holds_head few.holds)
+first_is_head (x ∷ xs) few e f = ap Some (f ∙ holds_head few.holds)
 
-pub first_nowhere : {m : Members} → m.count ≡ 0 → FirstMember m Nowhere
+pub first_nowhere : {m : Members} → m.count ≡ 0 → FirstMember m None
 first_nowhere e = record { is = λ {xs} few. first_is_none xs few e }
 
-pub first_at : {m : Members} {x : ℕ} → (m.count ≡ 0 → ⊥) → x ≡ cell m.at 0 → FirstMember m (At x)
+pub first_at : {m : Members} {x : ℕ} → (m.count ≡ 0 → ⊥) → x ≡ cell m.at 0 → FirstMember m (Some x)
 first_at e f = record { is = λ {xs} few. first_is_head xs few e f }
 
 -- the ways of `settle_union`
@@ -351,7 +346,7 @@ union_rest p pol rest ys = do
   settle (top_if_emptied pol ms) (rest ys) Union zs
 
 module _ {table w work : List ℕ} {c : Canon} {h n : ℕ} {f : Flow} {pol : Polarity} {all : Listed} where
-  pub union_on : {q : Pass} {m a : Members} {b : Bool} {y : Found} {w' : List ℕ} {r : Settled} → Flattens 5 w work h n f all → all.flow ≡ On q
+  pub union_on : {q : Pass} {m a : Members} {b : Bool} {y : Option ℕ} {w' : List ℕ} {r : Settled} → Flattens 5 w work h n f all → all.flow ≡ On q
       → DropsFillers table preserved_at c.count w all.members m → Makes (union_members pol) w m a → TopIfEmptied pol m b → FirstMember all.members y
       → SettlesList 5 w q a b y w' r → SettlesUnion table c w work h n f pol w' r
   union_on flat e conc makes top first z =

@@ -1,4 +1,5 @@
 -- An intersection tried, after its visits. Assumes nothing.
+use Rattle.std.specs.Prelude.{Option, None}
 use mathlib.Core.Path.{◌≡◌, refl, sym, ap, ap₂, ◌∙◌, subst}
 use mathlib.Core.Bool.{Bool, true, false}
 use Prim.Native.Nat.{ℕ}
@@ -7,33 +8,32 @@ use mathlib.Core.List.{List, []}
 use lib.ListN.{length}
 use Rattle.cells.specs.Part.{if}
 use Rattle.rules.specs.Types.{Intersection, State, Out, ok, no, Run, bind, ◌>>=◌}
-use Rattle.rules.specs.Members.{remove_tautological_pairs, remove_redundant_negations, has_type_contradiction, simplify_union_neg_intersection, factor_shared_from_intersection}
+use Rattle.rules.specs.Members.{merge_attrset_intersection, remove_tautological_pairs, remove_redundant_negations, has_type_contradiction, simplify_union_neg_intersection, factor_shared_from_intersection}
 use Rattle.rules.specs.Canonicalizer.{flattened, concrete_of, settle, top_if_emptied, inter_normalized, inter_rest, first_member}
 use Rattle.rules.specs.Canonicalizer as runs
 use Rattle.rules.specs.declared.Polarity.{Polarity}
 use Rattle.rules.specs.declared.Polarity.TheVariants.{Positive, Negative}
 use Rattle.laws.proofs.Keeping.{refused_not, gave, keeps_flattened, keeps_concrete, keeps_simplify, keeps_factor, keeps_inter_normalized}
 use Rattle.lang_ty.specs.declared.arena.Pass.{Pass}
-use Rattle.lang_ty.specs.declared.arena.Given.{Given}
-use Rattle.lang_ty.specs.declared.arena.Given.TheVariants.{Node as NodeG, Refused as RefusedG}
-use Rattle.lang_ty.specs.declared.arena.Found.{Found}
+use Rattle.lang_ty.specs.Given.{Given}
+use Rattle.lang_ty.specs.Given.{Node as NodeG, Refused as RefusedG}
 use Rattle.lang_ty.specs.Nodes.{Answers as Stores}
 use Rattle.storage.specs.declared.given.Canon.{Canon}
 use Rattle.members.specs.declared.lists.Members.{Members}
-use Rattle.members.specs.declared.lists.Flow.{Flow}
-use Rattle.members.specs.declared.lists.Flow.TheVariants.{On, Refused}
-use Rattle.members.specs.declared.lists.Listed.{Listed}
+use Rattle.members.specs.Flow.{Flow}
+use Rattle.members.specs.Flow.{On, Refused}
+use Rattle.members.specs.Listed.{Listed}
 use Rattle.members.specs.Lists.{Taken, Makes, Tests, Gives, Runs, AnswersFlow, Answers, stays, sift}
 use Rattle.merge.specs.Merges.{MergesSets, Roomy}
-use Rattle.composites.specs.declared.lists.Settled.{Settled}
+use Rattle.composites.specs.Settled.{Settled}
 use Rattle.composites.specs.declared.binary.Try.{Try}
 use Rattle.composites.specs.declared.binary.Try.TheVariants.{First, Again}
-use Rattle.composites.specs.declared.binary.Tried.{Tried}
-use Rattle.composites.specs.declared.binary.Tried.TheVariants.{Node as NodeT, Contradiction as ContradictionT, Refused as RefusedT}
+use Rattle.composites.specs.Tried.{Tried}
+use Rattle.composites.specs.Tried.{Node as NodeT, Contradiction as ContradictionT, Refused as RefusedT}
 use Rattle.composites.specs.Places.{Visited, FirstIs, Tries, TriesInter}
 use Rattle.composites.specs.Lists.{Soundly, Leads, Steps, Flattens, WithoutFillers, TopIfEmptied, AsTried, SettlesListed, OrFirst, FirstMember, NormalizesInter}
 use Rattle.composites.specs.Lists.{inter_end, SettlesInter, RestsInter, TriesMembers, FirstTried, inter_tested, ChecksInter}
-use Rattle.composites.proofs.Settled.{bind_both, bind_of, Way, stores_of, answers_of, goes_on, stops, taken_nodes}
+use Rattle.composites.proofs.Settled.{bind_both, bind_of, Way, stores_of, answers_of, goes_on, stops, taken_nodes, listed_off, or_refused, first_nowhere}
 use Rattle.composites.proofs.NormalBounds.{soundly_step, leads_step, leads_now, visited_soundly}
 
 tries_of : {f g : Way} {w : List ℕ} {r : Tried} → ((rest : List ℕ → Run ℕ) → f rest ≡ g rest) → Tries g w r → Tries f w r
@@ -76,6 +76,18 @@ module _ {c : Canon} {w work : List ℕ} {h : ℕ} {q : Pass} {m : Members} {pol
             }
         by p same o (Refused k) g = bind_of (redundant p.functor) g
 
+pub normalized_refused : {c : Canon} {w work w' work' : List ℕ} {h k : ℕ} {q : Pass} {m : Members} {pol : Polarity} {l : Listed} → pol ≡ Negative
+    → MergesSets w work h q m w' work' l → l.flow ≡ Refused k → NormalizesInter c w work h q m pol w' work' l
+normalized_refused {c} {w} {work} {w'} {work'} {h} {k} {q} {m} {l = l} e z g =
+    subst (λ (x : Polarity). NormalizesInter c w work h q m x w' work' l) (sym e)
+    (record {
+      kept = z.kept;
+      is = λ p {st} {xs} same sound on t roomy.
+          let o = merge_attrset_intersection xs st in
+          let redundant : List ℕ → Run (List ℕ) = λ one st. ok (remove_redundant_negations p.functor st.nodes one) st in
+          subst (λ (x : Flow). AnswersFlow (bind o redundant) w' l.members x) (sym g) (bind_of redundant (stops o w' l g (z.is sound on t roomy)));
+    })
+
 -- a step where those before it go on, and where they were refused
 module _ {f : List ℕ → Run (List ℕ)} {w : List ℕ} {l : Listed} where
   pub steps_on : {q : Pass} {w' : List ℕ} {r : Listed} → l.flow ≡ On q → Runs f w q l.members w' r → Steps f w l w' r
@@ -91,7 +103,7 @@ module _ {f : List ℕ → Run (List ℕ)} {w : List ℕ} {l : Listed} where
       record { is = λ o a. subst (λ (x : Flow). AnswersFlow (bind o f) w l.members x) (sym e) (bind_of f (stops o w l e a)) }
 
 -- `inter_settled`
-pub inter_settled : {c : Canon} {w w1 w2 w3 w4 : List ℕ} {l a b : Listed} {cancelled : Bool} {y : Found} {z : Settled} {g : Given}
+pub inter_settled : {c : Canon} {w w1 w2 w3 w4 : List ℕ} {l a b : Listed} {cancelled : Bool} {y : Option ℕ} {z : Settled} {g : Given}
     → Steps (simplify_union_neg_intersection c.functor) w l w1 a → Steps factor_shared_from_intersection w1 a w2 b → SettlesListed w2 b cancelled y w3 z
     → OrFirst w3 z w4 g → SettlesInter c w l cancelled y w4 g
 inter_settled {c} {cancelled = cancelled} i f d e =
@@ -107,13 +119,16 @@ inter_settled {c} {cancelled = cancelled} i f d e =
           (e.is (λ rest. bind o3 (settle cancelled (rest ys) Intersection)) (d.is o3 ys (f.is o2 (i.is o a)) known));
     }
 
+pub settles_off : {c : Canon} {w : List ℕ} {l : Listed} {cancelled : Bool} {y : Option ℕ} {k : ℕ} → l.flow ≡ Refused k → SettlesInter c w l cancelled y w (RefusedG k)
+settles_off e = inter_settled (steps_off e) (steps_off e) (listed_off e) (or_refused refl)
+
 -- `inter_rest`
 rest_is : (p : runs.Pass) (c : Canon) (pol : Polarity) (b : Bool) (ys xs : List ℕ) (st : State) → p.functor ≡ c.functor → b ≡ top_if_emptied pol xs
     → inter_rest p pol ys xs st ≡ bind (inter_normalized p pol xs st) (inter_end c.functor b ys)
 unfolding inter_rest
 rest_is p c pol b ys xs st same e = ap₂ (λ (k : ℕ) (t : Bool). bind (inter_normalized p pol xs st) (inter_end k t ys)) same (sym e)
 
-pub inter_rest_lem : {c : Canon} {w work w1 work1 w2 : List ℕ} {h : ℕ} {q : Pass} {m : Members} {y : Found} {pol : Polarity} {l : Listed} {b : Bool} {g : Given}
+pub inter_rest_lem : {c : Canon} {w work w1 work1 w2 : List ℕ} {h : ℕ} {q : Pass} {m : Members} {y : Option ℕ} {pol : Polarity} {l : Listed} {b : Bool} {g : Given}
     → NormalizesInter c w work h q m pol w1 work1 l → TopIfEmptied pol m b → SettlesInter c w1 l b y w2 g → RestsInter c w work h q m y pol w2 work1 g
 inter_rest_lem {c} {pol = pol} {b = b} n top z =
     record {
@@ -137,21 +152,36 @@ pub tried_refused : {g : Given} {k : ℕ} → g ≡ RefusedG k → AsTried g (Re
 tried_refused e = record { is = λ o w a. record { is = λ rest. (subst (λ (y : Given). Stores o w y) e a).is } }
 
 -- the ways of `tried_members` and `first_tried`
-first_again : {A : Type 0} {t : Try} {y : Found} → t ≡ First → t ≡ Again y → A
+first_again : {A : Type 0} {t : Try} {y : Option ℕ} → t ≡ First → t ≡ Again y → A
 first_again e f = let z : ◌≡◌ {A = ℕ} 0 1 = cc in absurd (omega arith)
 
 pub members_once : {c : Canon} {w : List ℕ} {l : Listed} {t : Try} → t ≡ First → TriesMembers c w l t w l
 members_once e = record { once = λ o f a. a; twice = λ y f. first_again e f }
 
-pub members_twice : {c : Canon} {w w' : List ℕ} {l r : Listed} {t : Try} {y : Found} → t ≡ Again y → Steps (simplify_union_neg_intersection c.functor) w l w' r
+pub members_twice : {c : Canon} {w w' : List ℕ} {l r : Listed} {t : Try} {y : Option ℕ} → t ≡ Again y → Steps (simplify_union_neg_intersection c.functor) w l w' r
     → TriesMembers c w l t w' r
 members_twice e z = record { once = λ o f a. first_again f e; twice = λ y f. z }
 
-pub first_once : {t : Try} {m : Members} {r : Found} → t ≡ First → FirstMember m r → FirstTried t m r
+pub members_off : {c : Canon} {w : List ℕ} {l : Listed} {t : Try} {k : ℕ} → l.flow ≡ Refused k → TriesMembers c w l t w l
+members_off z = record { once = λ o f a. a; twice = λ y f. steps_off z }
+
+pub fillers_off : {table w : List ℕ} {c : Canon} {l : Listed} {k : ℕ} → l.flow ≡ Refused k → WithoutFillers table c w l l
+fillers_off z = record { is = λ given. steps_off z }
+
+pub first_once : {t : Try} {m : Members} {r : Option ℕ} → t ≡ First → FirstMember m r → FirstTried t m r
 first_once e f = record { once = λ g. f; twice = λ y g. first_again e g }
 
-pub first_twice : {t : Try} {m : Members} {y : Found} → t ≡ Again y → FirstTried t m y
+pub first_twice : {t : Try} {m : Members} {y : Option ℕ} → t ≡ Again y → FirstTried t m y
 first_twice {y = y} e = record { once = λ f. first_again f e; twice = λ x f. cc }
+
+-- the first member of the first try where the visits were refused
+abbrev pub held_first : Try → Option ℕ
+held_first First = None
+held_first (Again y) = y
+
+pub first_held : (t : Try) → FirstTried t (record { count = 0; at = [] }) (held_first t)
+first_held First = first_once refl (first_nowhere refl)
+first_held (Again y) = first_twice refl
 
 -- the ways of `inter_checked`
 abbrev tested : runs.Pass → Polarity → List ℕ → (List ℕ → Run ℕ) → List ℕ → Bool → Run ℕ
@@ -165,7 +195,7 @@ tested_is functor p pol ys t z same g rest =
     ∙ ap (λ (b : Bool). tested p pol ys rest g.list b g.after)
     (ap (λ (k : ℕ). has_type_contradiction k g.after.nodes g.list) same ∙ sym (t.is g.stands.arena g.taken) ∙ z)
 
-module _ {c : Canon} {w work : List ℕ} {h : ℕ} {l : Listed} {y : Found} {pol : Polarity} where
+module _ {c : Canon} {w work : List ℕ} {h : ℕ} {l : Listed} {y : Option ℕ} {pol : Polarity} where
   pub checked_contradicts : {q : Pass} {b : Bool} → l.flow ≡ On q → Tests (has_type_contradiction c.functor) w l.members b → b ≡ true
       → ChecksInter c w work h l y pol w work (ContradictionT y q)
   checked_contradicts e t z =
@@ -217,7 +247,7 @@ second_rest p pol ys rest ms = do
   simple ← simplify_union_neg_intersection p.functor ms
   inter_tested p pol ys rest simple
 
-module _ {table w work w1 w2 work2 : List ℕ} {c : Canon} {h : ℕ} {f : Flow} {t : Try} {pol : Polarity} {all found l : Listed} {y : Found} {r : Tried}
+module _ {table w work w1 w2 work2 : List ℕ} {c : Canon} {h : ℕ} {f : Flow} {t : Try} {pol : Polarity} {all found l : Listed} {y : Option ℕ} {r : Tried}
     (flat : Flattens 6 w work h 2 f all) (first : FirstTried t all.members y) (fillers : WithoutFillers table c w all found)
     (members : TriesMembers c w found t w1 l) (checks : ChecksInter c w1 work h l y pol w2 work2 r) where
   once_by : (p : runs.Pass) → p.functor ≡ c.functor → t ≡ First → Roomy work h → (o : Out (List ℕ)) → Answers o w all → Answers (bind o (concrete_of p)) w1 l

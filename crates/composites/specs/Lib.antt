@@ -1,2 +1,4 @@
+pub mod Settled
+pub mod Tried
 pub mod Places
 pub mod Lists

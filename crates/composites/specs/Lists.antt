@@ -1,4 +1,5 @@
 -- What the functions of places ensure, besides those of Places. Each contract's premises are arguments of its fields.
+use Rattle.std.specs.Prelude.{Option}
 use Rattle.std.specs.Prelude.{◌≡◌, Bool, false, ℕ, ◌<◌, List, length}
 use Rattle.cells.specs.Part.{if, cell}
 use Rattle.rules.specs.Types.{Node, Intersection, Bottom, State, Out, ok, Run, bind, ◌>>=◌, ask, store}
@@ -10,19 +11,18 @@ use Rattle.laws.specs.Sound.{Sound}
 use Rattle.rules.specs.declared.Polarity.{Polarity}
 use Rattle.rules.specs.declared.Polarity.TheVariants.{Positive, Negative}
 use Rattle.lang_ty.specs.declared.arena.Pass.{Pass}
-use Rattle.lang_ty.specs.declared.arena.Given.{Given}
-use Rattle.lang_ty.specs.declared.arena.Found.{Found}
+use Rattle.lang_ty.specs.Given.{Given}
 use Rattle.lang_ty.specs.Nodes.{Stands, Answers as Stores}
 use Rattle.storage.specs.declared.given.Canon.{Canon}
 use Rattle.members.specs.declared.lists.Members.{Members}
-use Rattle.members.specs.declared.lists.Flow.{Flow}
-use Rattle.members.specs.declared.lists.Listed.{Listed}
+use Rattle.members.specs.Flow.{Flow}
+use Rattle.members.specs.Listed.{Listed}
 use Rattle.members.specs.Lists.{Few, Taken, Wraps, Answers}
 use Rattle.merge.specs.Merges.{Roomy}
-use Rattle.composites.specs.declared.lists.Settled.{Settled}
+use Rattle.composites.specs.Settled.{Settled}
 use Rattle.composites.specs.declared.binary.Try.{Try}
 use Rattle.composites.specs.declared.binary.Try.TheVariants.{First, Again}
-use Rattle.composites.specs.declared.binary.Tried.{Tried}
+use Rattle.composites.specs.Tried.{Tried}
 use Rattle.composites.specs.Places.{GivenTo, Visited, FirstIs, Settles, Tries, union_end}
 use Rattle.cells.specs.Placed.{Under}
 
@@ -31,7 +31,7 @@ abbrev pub Soundly : Out (List ℕ) → Type 0
 Soundly o = (xs : List ℕ) (st : State) → o ≡ ok xs st → Sound st
 
 -- whatever the rules gave, ys are nodes by then, and y is the first of them
-pub record Leads (o : Out (List ℕ)) (ys : List ℕ) (y : Found) : Type 0 where
+pub record Leads (o : Out (List ℕ)) (ys : List ℕ) (y : Option ℕ) : Type 0 where
   pub below : (xs : List ℕ) (st : State) → o ≡ ok xs st → Under (length st.nodes) ys
   pub first : (xs : List ℕ) (st : State) → o ≡ ok xs st → FirstIs ys y
 
@@ -57,7 +57,7 @@ pub record TopIfEmptied (pol : Polarity) (m : Members) (r : Bool) : Type 0 where
   pub is : {xs : List ℕ} → Few m xs → r ≡ top_if_emptied pol xs
 
 -- the members as a node of that kind; ys are those before filtering
-pub record SettlesList (kind : ℕ) (w : List ℕ) (q : Pass) (m : Members) (cancelled : Bool) (first : Found) (w' : List ℕ) (r : Settled) : Type 0 where
+pub record SettlesList (kind : ℕ) (w : List ℕ) (q : Pass) (m : Members) (cancelled : Bool) (first : Option ℕ) (w' : List ℕ) (r : Settled) : Type 0 where
   pub is : {st : State} {xs : List ℕ} {wrap : List ℕ → Node} (ys : List ℕ) → Wraps kind wrap → Stands st w q → Taken m xs q.nodes
       → Under (length st.nodes) ys → FirstIs ys first → Settles (λ rest. settle cancelled (rest ys) wrap xs st) w' r
 
@@ -69,11 +69,11 @@ pub record AsTried (g : Given) (r : Tried) : Type 0 where
   pub is : (o : Out ℕ) (w : List ℕ) → Stores o w g → Tries (λ rest. o) w r
 
 -- what is left of an intersection as a node
-pub record SettlesListed (w : List ℕ) (l : Listed) (cancelled : Bool) (first : Found) (w' : List ℕ) (r : Settled) : Type 0 where
+pub record SettlesListed (w : List ℕ) (l : Listed) (cancelled : Bool) (first : Option ℕ) (w' : List ℕ) (r : Settled) : Type 0 where
   pub is : (o : Out (List ℕ)) (ys : List ℕ) → Answers o w l → Leads o ys first → Settles (λ rest. bind o (settle cancelled (rest ys) Intersection)) w' r
 
 -- the first of ys, or Bottom where there is none
-pub record FirstOrBottom (w : List ℕ) (y : Found) (q : Pass) (w' : List ℕ) (r : Given) : Type 0 where
+pub record FirstOrBottom (w : List ℕ) (y : Option ℕ) (q : Pass) (w' : List ℕ) (r : Given) : Type 0 where
   pub is : {st : State} (ys : List ℕ) → Stands st w q → Under (length st.nodes) ys → FirstIs ys y → Stores (first_member ys st) w' r
 
 -- what is to be done where nothing is left, is to take the first member before filtering
@@ -81,7 +81,7 @@ pub record OrFirst (w : List ℕ) (z : Settled) (w' : List ℕ) (r : Given) : Ty
   pub is : (f : (List ℕ → Run ℕ) → Out ℕ) → Settles f w z → Stores (f first_member) w' r
 
 -- the first member, where there is one
-pub record FirstMember (m : Members) (r : Found) : Type 0 where
+pub record FirstMember (m : Members) (r : Option ℕ) : Type 0 where
   pub is : {xs : List ℕ} → Few m xs → FirstIs xs r
 
 -- the answers held from h on, as a union
@@ -99,7 +99,7 @@ merged_end functor rest one = do
         settle false rest Intersection ys)
 
 -- l is what the merge gave
-pub record SettlesMerged (c : Canon) (w : List ℕ) (l : Listed) (first : Found) (w' : List ℕ) (r : Settled) : Type 0 where
+pub record SettlesMerged (c : Canon) (w : List ℕ) (l : Listed) (first : Option ℕ) (w' : List ℕ) (r : Settled) : Type 0 where
   pub is : (o : Out (List ℕ)) (ys : List ℕ) → Answers o w l → Leads o ys first → Settles (λ rest. bind o (merged_end c.functor (rest ys))) w' r
 
 -- the members of an intersection, normalized in their place; of work nothing below h changes
@@ -116,11 +116,11 @@ inter_end functor cancelled ys xs = do
   settle cancelled (first_member ys) Intersection zs
 
 -- l is what the normalization gave
-pub record SettlesInter (c : Canon) (w : List ℕ) (l : Listed) (cancelled : Bool) (first : Found) (w' : List ℕ) (r : Given) : Type 0 where
+pub record SettlesInter (c : Canon) (w : List ℕ) (l : Listed) (cancelled : Bool) (first : Option ℕ) (w' : List ℕ) (r : Given) : Type 0 where
   pub is : (o : Out (List ℕ)) (ys : List ℕ) → Answers o w l → Leads o ys first → Stores (bind o (inter_end c.functor cancelled ys)) w' r
 
 -- Ty::Inter, once its members do not contradict each other
-pub record RestsInter (c : Canon) (w work : List ℕ) (h : ℕ) (q : Pass) (m : Members) (first : Found) (pol : Polarity) (w' work' : List ℕ)
+pub record RestsInter (c : Canon) (w work : List ℕ) (h : ℕ) (q : Pass) (m : Members) (first : Option ℕ) (pol : Polarity) (w' work' : List ℕ)
     (r : Given) : Type 0 where
   pub kept : (k : ℕ) → k < h → cell work' k ≡ cell work k
   pub is : (p : runs.Pass) {st : State} {xs : List ℕ} (ys : List ℕ) → p.functor ≡ c.functor → Sound st → Stands st w q → Taken m xs q.nodes → Roomy work h
@@ -129,12 +129,12 @@ pub record RestsInter (c : Canon) (w work : List ℕ) (h : ℕ) (q : Pass) (m : 
 -- the members that a try tests
 pub record TriesMembers (c : Canon) (w : List ℕ) (l : Listed) (t : Try) (w' : List ℕ) (r : Listed) : Type 0 where
   pub once : (o : Out (List ℕ)) → t ≡ First → Answers o w l → Answers o w' r
-  pub twice : (y : Found) → t ≡ Again y → Steps (simplify_union_neg_intersection c.functor) w l w' r
+  pub twice : (y : Option ℕ) → t ≡ Again y → Steps (simplify_union_neg_intersection c.functor) w l w' r
 
 -- the first member of the first try
-pub record FirstTried (t : Try) (m : Members) (r : Found) : Type 0 where
+pub record FirstTried (t : Try) (m : Members) (r : Option ℕ) : Type 0 where
   pub once : t ≡ First → FirstMember m r
-  pub twice : (y : Found) → t ≡ Again y → r ≡ y
+  pub twice : (y : Option ℕ) → t ≡ Again y → r ≡ y
 
 -- the members of a try, tested
 abbrev pub inter_tested : runs.Pass → Polarity → List ℕ → (List ℕ → Run ℕ) → List ℕ → Run ℕ
@@ -143,7 +143,7 @@ inter_tested p pol ys rest ms = do
   if contradicts (λ _. rest ys) (λ _. inter_rest p pol ys ms)
 
 -- l are the members of a try
-pub record ChecksInter (c : Canon) (w work : List ℕ) (h : ℕ) (l : Listed) (first : Found) (pol : Polarity) (w' work' : List ℕ) (r : Tried) : Type 0 where
+pub record ChecksInter (c : Canon) (w work : List ℕ) (h : ℕ) (l : Listed) (first : Option ℕ) (pol : Polarity) (w' work' : List ℕ) (r : Tried) : Type 0 where
   pub kept : (k : ℕ) → k < h → cell work' k ≡ cell work k
   pub is : (p : runs.Pass) (o : Out (List ℕ)) (ys : List ℕ) → p.functor ≡ c.functor → Answers o w l → Soundly o → Roomy work h → Leads o ys first
       → Tries (λ rest. bind o (inter_tested p pol ys rest)) w' r

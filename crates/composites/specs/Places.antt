@@ -1,4 +1,5 @@
 -- What is made of answers in a place, and what the functions of places ensure. Each contract's premises are arguments of its fields.
+use Rattle.std.specs.Prelude.{Option, Some, None}
 use Rattle.std.specs.Prelude.{◌≡◌, ℕ, ◌<◌, List, [], ◌∷◌, length}
 use Rattle.cells.specs.Part.{if, cell}
 use Rattle.layout.specs.Layout.{preserved_at}
@@ -10,21 +11,19 @@ use Rattle.rules.specs.Canonicalizer as runs
 use Rattle.laws.specs.Sound.{Sound}
 use Rattle.rules.specs.declared.Polarity.{Polarity}
 use Rattle.lang_ty.specs.declared.arena.Pass.{Pass}
-use Rattle.lang_ty.specs.declared.arena.Given.{Given}
-use Rattle.lang_ty.specs.declared.arena.Found.{Found}
-use Rattle.lang_ty.specs.declared.arena.Found.TheVariants.{At, Nowhere}
+use Rattle.lang_ty.specs.Given.{Given}
 use Rattle.lang_ty.specs.Nodes.{Stands, Comes, Answers}
 use Rattle.storage.specs.declared.given.Canon.{Canon}
-use Rattle.members.specs.declared.lists.Flow.{Flow}
-use Rattle.members.specs.declared.lists.Flow.TheVariants.{On, Refused}
+use Rattle.members.specs.Flow.{Flow}
+use Rattle.members.specs.Flow.{On, Refused}
 use Rattle.members.specs.Lists.{Preserves}
 use Rattle.merge.specs.Merges.{Roomy}
-use Rattle.composites.specs.declared.lists.Settled.{Settled}
-use Rattle.composites.specs.declared.lists.Settled.TheVariants.{Node as NodeS, Empty as EmptyS, Refused as RefusedS}
+use Rattle.composites.specs.Settled.{Settled}
+use Rattle.composites.specs.Settled.{Node as NodeS, Empty as EmptyS, Refused as RefusedS}
 use Rattle.composites.specs.declared.binary.Try.{Try}
 use Rattle.composites.specs.declared.binary.Try.TheVariants.{First, Again}
-use Rattle.composites.specs.declared.binary.Tried.{Tried}
-use Rattle.composites.specs.declared.binary.Tried.TheVariants.{Node as NodeT, Contradiction as ContradictionT, Refused as RefusedT}
+use Rattle.composites.specs.Tried.{Tried}
+use Rattle.composites.specs.Tried.{Node as NodeT, Contradiction as ContradictionT, Refused as RefusedT}
 use Rattle.cells.specs.Placed.{Holds, Under}
 
 -- the pass's set, its entry count and the number of `__functor` are those of the code
@@ -50,16 +49,16 @@ HeldFlow o w work h n (Refused k) = o ≡ no k
 pub record Visited (o : Out (List ℕ)) (w work : List ℕ) (h n : ℕ) (f : Flow) : Type 0 where
   pub is : HeldFlow o w work h n f
 
-abbrev pub FirstIs : List ℕ → Found → Type 0
-FirstIs [] f = f ≡ Nowhere
-FirstIs (x ∷ xs) f = f ≡ At x
+abbrev pub FirstIs : List ℕ → Option ℕ → Type 0
+FirstIs [] f = f ≡ None
+FirstIs (x ∷ xs) f = f ≡ Some x
 
 -- a list settled as a node, whatever is to be done where nothing is left
 abbrev pub SettlesNode : ((List ℕ → Run ℕ) → Out ℕ) → List ℕ → ℕ → Pass → Type 0
 SettlesNode f w x q = Comes (λ (st : State). (rest : List ℕ → Run ℕ) → f rest ≡ ok x st) (λ (n : ℕ). x < n) w q
 
 -- nothing is left: what is to be done then gets all members before filtering, of which y is the first
-pub record SettlesEmpty (f : (List ℕ → Run ℕ) → Out ℕ) (w : List ℕ) (y : Found) (q : Pass) : Type 0 where
+pub record SettlesEmpty (f : (List ℕ → Run ℕ) → Out ℕ) (w : List ℕ) (y : Option ℕ) (q : Pass) : Type 0 where
   pub after : State
   pub list : List ℕ
   pub is : (rest : List ℕ → Run ℕ) → f rest ≡ rest list after
@@ -129,6 +128,6 @@ pub record TriesInter (table : List ℕ) (c : Canon) (w work : List ℕ) (h : �
   pub kept : (k : ℕ) → k < h → cell work' k ≡ cell work k
   pub once : {p : runs.Pass} (o : Out (List ℕ)) → GivenTo p table c → Visited o w work h 2 f → Roomy work h → t ≡ First
       → Tries (λ rest. bind o (λ xs. inter_first p pol xs rest)) w' r
-  pub twice : {p : runs.Pass} (o : Out (List ℕ)) (ys : List ℕ) (y : Found) → GivenTo p table c → Visited o w work h 2 f → Roomy work h → t ≡ Again y
+  pub twice : {p : runs.Pass} (o : Out (List ℕ)) (ys : List ℕ) (y : Option ℕ) → GivenTo p table c → Visited o w work h 2 f → Roomy work h → t ≡ Again y
       → FirstIs ys y
       → ((xs : List ℕ) (st : State) → o ≡ ok xs st → Under (length st.nodes) ys) → Tries (λ rest. bind o (λ xs. inter_second p pol ys xs rest)) w' r

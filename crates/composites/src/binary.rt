@@ -1,30 +1,38 @@
 // Unions and intersections of canonicalize_concrete, once their members are visited.
-ghost use Rattle.rules.specs.Members.{simplify_union_neg_intersection, factor_shared_from_intersection};
+ghost use Rattle.std.specs.Prelude.{Ok};
+ghost use Rattle.lang_ty.specs.Given.{given};
+ghost use Rattle.members.specs.Flow.{On};
+ghost use Rattle.members.specs.Listed.{listed};
+ghost use Rattle.composites.specs.Tried.{tried};
 ghost use Rattle.composites.specs.Places.{UnionOf, TriesInter};
-ghost use Rattle.composites.specs.Lists.{Steps, NormalizesInter, SettlesInter, RestsInter, AsTried, TriesMembers, FirstTried, ChecksInter};
+ghost use Rattle.composites.specs.Lists.{NormalizesInter, SettlesInter, RestsInter, TriesMembers, FirstTried, ChecksInter};
 
 use crate::lists::{
-    first_of, flattened, or_first, settle_listed, settle_union, top_if_emptied, without_fillers,
+    first_of, flattened, or_first, real_members, settle, settle_union, top_if_emptied,
 };
-use lang_ty::arena::{Found, Given, OutputTy, Pass};
-use members::lists::{Flow, Listed, Members};
-use rules::Polarity;
-use simplify::{intersections, unions};
+use factor::factor_shared_from_intersection;
+use lang_ty::arena::{OutputTy, Pass};
+use members::lists::Members;
+use merge::merge_attrset_intersection;
+use rules::{Polarity, Refusal};
+use simplify::intersections::{
+    has_type_contradiction, remove_redundant_negations, simplify_union_neg_intersection,
+};
+use simplify::unions;
 use storage::given::Canon;
 
 // Which try of an intersection: the first, or the second with the first member of the first.
 #[derive(Clone, Copy)]
 pub enum Try {
     First,
-    Again(Found),
+    Again(Option<u32>),
 }
 
-// An intersection tried: a node, a contradiction with the first member of all, or a refusal.
+// What a try comes to: a node, or a contradiction with the first member of all.
 #[derive(Clone, Copy)]
-pub enum Tried {
-    Node(u32, Pass),
-    Contradiction(Found, Pass),
-    Refused(u32),
+pub enum Outcome {
+    Node(u32),
+    Contradiction(Option<u32>),
 }
 
 // Ty::Union of the two answers held from h on.
@@ -34,13 +42,13 @@ pub fn union_of(
     arena: &mut [u32],
     work: &[u32],
     h: u32,
-    q: Pass,
+    q: &mut Pass,
     pol: Polarity,
-) -> Given
-    ensures { UnionOf table.now c arena.old work.now h q pol arena.new result }
+) -> Result<u32, Refusal>
+    ensures { UnionOf table.now c arena.old work.now h q.old pol arena.new (given result q.new) }
 {
-    let s = settle_union(table, c, arena, work, h, 2, Flow::On(q), pol);
-    or_first(arena, s)
+    let e = settle_union(table, c, arena, work, h, q, 2, pol)?;
+    or_first(arena, q, e)
 }
 
 // Ty::Inter, the normalization of a place.
@@ -49,62 +57,39 @@ fn inter_normalized(
     arena: &mut [u32],
     work: &mut [u32],
     h: u32,
-    q: Pass,
+    q: &mut Pass,
     m: Members,
     pol: Polarity,
-) -> Listed
-    ensures { NormalizesInter c arena.old work.old h q m pol arena.new work.new result }
+) -> Result<Members, Refusal>
+    ensures { NormalizesInter c arena.old work.old h q.old m pol arena.new work.new (listed result q.new) }
 {
     match pol {
         Polarity::Positive => {
-            let r = intersections::remove_redundant_negations(arena, c.functor, m);
-            let p = unions::remove_tautological_pairs(arena, r);
-            Listed {
-                flow: Flow::On(q),
-                members: p,
-            }
+            let r = remove_redundant_negations(arena, c.functor, m);
+            Ok(unions::remove_tautological_pairs(arena, r))
         }
         Polarity::Negative => {
-            let l = merge::merge_attrset_intersection(arena, work, h, q, m);
-            let flow = l.flow;
-            let r = intersections::remove_redundant_negations(arena, c.functor, l.members);
-            Listed { flow, members: r }
+            let l = merge_attrset_intersection(arena, work, h, q, m)?;
+            Ok(remove_redundant_negations(arena, c.functor, l))
         }
-    }
-}
-
-// simplify_union_neg_intersection where the steps before go on.
-fn simplified(c: Canon, arena: &mut [u32], l: Listed) -> Listed
-    ensures { Steps (simplify_union_neg_intersection c.functor) arena.old l arena.new result }
-{
-    let flow = l.flow;
-    match flow {
-        Flow::On(q) => intersections::simplify_union_neg_intersection(
-            arena, c.functor, q, l.members,
-        ),
-        Flow::Refused(_) => l,
-    }
-}
-
-// factor_shared_from_intersection where the steps before go on.
-fn factored(arena: &mut [u32], l: Listed) -> Listed
-    ensures { Steps factor_shared_from_intersection arena.old l arena.new result }
-{
-    let flow = l.flow;
-    match flow {
-        Flow::On(q) => factor::factor_shared_from_intersection(arena, q, l.members),
-        Flow::Refused(_) => l,
     }
 }
 
 // The list of an intersection simplified, factored and settled; first is the first member of the first try.
-fn inter_settled(c: Canon, arena: &mut [u32], l: Listed, cancelled: bool, first: Found) -> Given
-    ensures { SettlesInter c arena.old l cancelled first arena.new result }
+fn inter_settled(
+    c: Canon,
+    arena: &mut [u32],
+    q: &mut Pass,
+    m: Members,
+    cancelled: bool,
+    first: Option<u32>,
+) -> Result<u32, Refusal>
+    ensures { SettlesInter c arena.old (listed (Ok m) q.old) cancelled first arena.new (given result q.new) }
 {
-    let s = simplified(c, arena, l);
-    let f = factored(arena, s);
-    let done = settle_listed(arena, f, cancelled, first);
-    or_first(arena, done)
+    let s = simplify_union_neg_intersection(arena, c.functor, q, m)?;
+    let f = factor_shared_from_intersection(arena, q, s)?;
+    let e = settle(arena, q, f, OutputTy::Intersection, cancelled, first)?;
+    or_first(arena, q, e)
 }
 
 // Ty::Inter, once its members do not contradict each other.
@@ -113,38 +98,36 @@ fn inter_rest(
     arena: &mut [u32],
     work: &mut [u32],
     h: u32,
-    q: Pass,
+    q: &mut Pass,
     m: Members,
-    first: Found,
+    first: Option<u32>,
     pol: Polarity,
-) -> Given
-    ensures { RestsInter c arena.old work.old h q m first pol arena.new work.new result }
+) -> Result<u32, Refusal>
+    ensures { RestsInter c arena.old work.old h q.old m first pol arena.new work.new (given result q.new) }
 {
-    let l = inter_normalized(c, arena, work, h, q, m, pol);
-    inter_settled(c, arena, l, top_if_emptied(pol, m), first)
-}
-
-fn as_tried(g: Given) -> Tried
-    ensures { AsTried g result }
-{
-    match g {
-        Given::Node(x, q) => Tried::Node(x, q),
-        Given::Refused(k) => Tried::Refused(k),
-    }
+    let cancelled = top_if_emptied(pol, m);
+    let l = inter_normalized(c, arena, work, h, q, m, pol)?;
+    inter_settled(c, arena, q, l, cancelled, first)
 }
 
 // The members of a try: the second's are simplified before they are tested.
-fn tried_members(c: Canon, arena: &mut [u32], l: Listed, t: Try) -> Listed
-    ensures { TriesMembers c arena.old l t arena.new result }
+fn tried_members(
+    c: Canon,
+    arena: &mut [u32],
+    q: &mut Pass,
+    m: Members,
+    t: Try,
+) -> Result<Members, Refusal>
+    ensures { TriesMembers c arena.old (listed (Ok m) q.old) t arena.new (listed result q.new) }
 {
     match t {
-        Try::First => l,
-        Try::Again(_) => simplified(c, arena, l),
+        Try::First => Ok(m),
+        Try::Again(_) => simplify_union_neg_intersection(arena, c.functor, q, m),
     }
 }
 
 // The first member of the first try.
-fn first_tried(t: Try, m: Members) -> Found
+fn first_tried(t: Try, m: Members) -> Option<u32>
     ensures { FirstTried t m result }
 {
     match t {
@@ -159,22 +142,18 @@ fn inter_checked(
     arena: &mut [u32],
     work: &mut [u32],
     h: u32,
-    l: Listed,
-    first: Found,
+    q: &mut Pass,
+    m: Members,
+    first: Option<u32>,
     pol: Polarity,
-) -> Tried
-    ensures { ChecksInter c arena.old work.old h l first pol arena.new work.new result }
+) -> Result<Outcome, Refusal>
+    ensures { ChecksInter c arena.old work.old h (listed (Ok m) q.old) first pol arena.new work.new (tried result q.new) }
 {
-    let flow = l.flow;
-    match flow {
-        Flow::On(q) => {
-            if intersections::has_type_contradiction(arena, c.functor, l.members) {
-                return Tried::Contradiction(first, q);
-            }
-            as_tried(inter_rest(c, arena, work, h, q, l.members, first, pol))
-        }
-        Flow::Refused(k) => Tried::Refused(k),
+    if has_type_contradiction(arena, c.functor, m) {
+        return Ok(Outcome::Contradiction(first));
     }
+    let x = inter_rest(c, arena, work, h, q, m, first, pol)?;
+    Ok(Outcome::Node(x))
 }
 
 // Ty::Inter of the two answers held from h on, up to a contradiction.
@@ -184,15 +163,15 @@ pub fn inter_tried(
     arena: &mut [u32],
     work: &mut [u32],
     h: u32,
-    f: Flow,
+    q: &mut Pass,
     t: Try,
     pol: Polarity,
-) -> Tried
-    ensures { TriesInter table.now c arena.old work.old h f t pol arena.new work.new result }
+) -> Result<Outcome, Refusal>
+    ensures { TriesInter table.now c arena.old work.old h (On q.old) t pol arena.new work.new (tried result q.new) }
 {
-    let all = flattened(arena, work, h, 2, f, OutputTy::INTERSECTION);
-    let first = first_tried(t, all.members);
-    let found = without_fillers(table, c, arena, all);
-    let l = tried_members(c, arena, found, t);
-    inter_checked(c, arena, work, h, l, first, pol)
+    let all = flattened(arena, work, h, 2, OutputTy::Intersection)?;
+    let first = first_tried(t, all);
+    let found = real_members(table, c, arena, all);
+    let m = tried_members(c, arena, q, found, t)?;
+    inter_checked(c, arena, work, h, q, m, first, pol)
 }

@@ -1,23 +1,29 @@
 // What bounds, unions and intersections share: answers flattened, fillers dropped, a list settled as a node.
+ghost use Rattle.lang_ty.specs.Nodes.{code};
+ghost use Rattle.lang_ty.specs.declared.arena.Pass.{Pass};
+ghost use Rattle.lang_ty.specs.Given.{given};
+ghost use Rattle.members.specs.Flow.{On};
+ghost use Rattle.members.specs.Listed.{listed};
 ghost use Rattle.members.specs.Lists.{Makes, DropsFillers};
 ghost use Rattle.layout.specs.Layout.{preserved_at};
-ghost use Rattle.composites.specs.Lists.{Flattens, WithoutFillers, union_members, TopIfEmptied, SettlesList, AsSettled, SettlesListed, FirstOrBottom, OrFirst, FirstMember, SettlesUnion};
+ghost use Rattle.composites.specs.Settled.{settled};
+ghost use Rattle.composites.specs.Lists.{Flattens, union_members, TopIfEmptied, SettlesList, FirstOrBottom, OrFirst, FirstMember, SettlesUnion};
+ghost use Rattle.std.specs.Prelude.{Ok};
 
 use lang_ty::arena;
-use lang_ty::arena::{Found, Given, OutputTy, Pass};
+use lang_ty::arena::{OutputTy, Pass};
 use layout::TableSlice;
-use members::lists::{Flow, Listed, Members};
+use members::lists::Members;
 use members::{flatten, lists};
-use rules::Polarity;
+use rules::{Polarity, Refusal};
 use simplify::unions;
 use storage::given::Canon;
 
-// A list settled: a node, nothing left of it beside its first member before filtering, or a refusal.
+// How a list ends: as a node, or with nothing left of it beside its first member before filtering.
 #[derive(Clone, Copy)]
-pub enum Settled {
-    Node(u32, Pass),
-    Empty(Found, Pass),
-    Refused(u32),
+pub enum Ending {
+    Node(u32),
+    Empty(Option<u32>),
 }
 
 // Whether a list of which nothing is left gives Top: there were some in a positive place, and they cancelled.
@@ -30,26 +36,24 @@ pub fn top_if_emptied(pol: Polarity, m: Members) -> bool
     }
 }
 
-// flatten_composite of the n answers held from h on; 7 where they are too many before it or after it.
-pub fn flattened(arena: &[u32], work: &[u32], h: u32, n: u32, f: Flow, kind: u32) -> Listed
-    ensures { Flattens kind arena.now work.now h n f result }
+// flatten_composite of the n answers held from h on; a refusal where they are too many before it or after it.
+pub fn flattened(
+    arena: &[u32],
+    work: &[u32],
+    h: u32,
+    n: u32,
+    kind: OutputTy,
+) -> Result<Members, Refusal>
+    ensures { (q : Pass) → Flattens (code kind) arena.now work.now h n (On q) (listed result q) }
 {
-    match f {
-        Flow::On(_) => {
-            if Pass::MEMBERS < n {
-                return lists::refused(7);
-            }
-            let m = flatten::flatten_composite(arena, lists::held(work, h, n), kind);
-            if Pass::MEMBERS < m.count {
-                return lists::refused(7);
-            }
-            Listed {
-                flow: f,
-                members: m,
-            }
-        }
-        Flow::Refused(k) => lists::refused(k),
+    if Pass::MEMBERS < n {
+        return Err(Refusal::Members);
     }
+    let m = flatten::flatten_composite(arena, lists::held(work, h, n), kind);
+    if Pass::MEMBERS < m.count {
+        return Err(Refusal::Members);
+    }
+    Ok(m)
 }
 
 // The members that are no fillers in this pass.
@@ -57,15 +61,6 @@ pub fn real_members(table: &[u32], c: Canon, arena: &[u32], m: Members) -> Membe
     ensures { DropsFillers table.now preserved_at c.count arena.now m result }
 {
     lists::drop_fillers(arena, table, TableSlice::PRESERVED, c.count, m)
-}
-
-// A list without its fillers.
-pub fn without_fillers(table: &[u32], c: Canon, arena: &[u32], l: Listed) -> Listed
-    ensures { WithoutFillers table.now c arena.now l result }
-{
-    let flow = l.flow;
-    let m = real_members(table, c, arena, l.members);
-    Listed { flow, members: m }
 }
 
 // The members of a union: pairs cancel in a positive place only.
@@ -83,86 +78,58 @@ fn union_normalized(arena: &[u32], m: Members, pol: Polarity) -> Members
 
 // A list as a node: Top where all members of a positive place cancelled, nothing, a sole member, or a composite; first is its first member
 // before filtering.
-fn settle(
+pub fn settle(
     arena: &mut [u32],
-    q: Pass,
+    q: &mut Pass,
     m: Members,
-    kind: u32,
+    kind: OutputTy,
     cancelled: bool,
-    first: Found,
-) -> Settled
-    ensures { SettlesList kind arena.old q m cancelled first arena.new result }
+    first: Option<u32>,
+) -> Result<Ending, Refusal>
+    ensures { SettlesList (code kind) arena.old q.old m cancelled first arena.new (settled result q.new) }
 {
-    let ms = m.at;
     let n = m.count;
     if n == 1 {
-        return Settled::Node(ms[0], q);
+        return Ok(Ending::Node(m.at[0]));
     }
     if n != 0 {
-        return as_settled(arena::store_list(arena, q, kind, &ms, 0, n));
+        let x = arena::store_list(arena, q, kind, &m.at, 0, n)?;
+        return Ok(Ending::Node(x));
     }
     if cancelled {
-        return as_settled(arena::store_leaf(arena, q, OutputTy::TOP));
+        let x = arena::store_leaf(arena, q, OutputTy::Top)?;
+        return Ok(Ending::Node(x));
     }
-    Settled::Empty(first, q)
-}
-
-pub fn as_settled(g: Given) -> Settled
-    ensures { AsSettled g result }
-{
-    match g {
-        Given::Node(x, q) => Settled::Node(x, q),
-        Given::Refused(k) => Settled::Refused(k),
-    }
-}
-
-// The list of an intersection where its steps go on.
-pub fn settle_listed(arena: &mut [u32], l: Listed, cancelled: bool, first: Found) -> Settled
-    ensures { SettlesListed arena.old l cancelled first arena.new result }
-{
-    let flow = l.flow;
-    match flow {
-        Flow::On(q) => settle(
-            arena,
-            q,
-            l.members,
-            OutputTy::INTERSECTION,
-            cancelled,
-            first,
-        ),
-        Flow::Refused(k) => Settled::Refused(k),
-    }
+    Ok(Ending::Empty(first))
 }
 
 // The first member before filtering, or Bottom where there was none.
-fn first_or_bottom(arena: &mut [u32], f: Found, q: Pass) -> Given
-    ensures { FirstOrBottom arena.old f q arena.new result }
+fn first_or_bottom(arena: &mut [u32], q: &mut Pass, first: Option<u32>) -> Result<u32, Refusal>
+    ensures { FirstOrBottom arena.old first q.old arena.new (given result q.new) }
 {
-    match f {
-        Found::At(x) => Given::Node(x, q),
-        Found::Nowhere => arena::store_leaf(arena, q, OutputTy::BOTTOM),
+    match first {
+        Some(x) => Ok(x),
+        None => arena::store_leaf(arena, q, OutputTy::Bottom),
     }
 }
 
-// The answer where a list was settled, or the first member before filtering.
-pub fn or_first(arena: &mut [u32], s: Settled) -> Given
-    ensures { OrFirst arena.old s arena.new result }
+// The node as which a list ends, or the first member before filtering.
+pub fn or_first(arena: &mut [u32], q: &mut Pass, e: Ending) -> Result<u32, Refusal>
+    ensures { OrFirst arena.old (settled (Ok e) q.old) arena.new (given result q.new) }
 {
-    match s {
-        Settled::Node(x, q) => Given::Node(x, q),
-        Settled::Empty(f, q) => first_or_bottom(arena, f, q),
-        Settled::Refused(k) => Given::Refused(k),
+    match e {
+        Ending::Node(x) => Ok(x),
+        Ending::Empty(first) => first_or_bottom(arena, q, first),
     }
 }
 
-pub fn first_of(m: Members) -> Found
+pub fn first_of(m: Members) -> Option<u32>
     ensures { FirstMember m result }
 {
-    let ms = m.at;
     if m.count == 0 {
-        return Found::Nowhere;
+        return None;
     }
-    Found::At(ms[0])
+    Some(m.at[0])
 }
 
 // The n answers held from h on as a union: flattened, without fillers, normalized and settled.
@@ -172,28 +139,15 @@ pub fn settle_union(
     arena: &mut [u32],
     work: &[u32],
     h: u32,
+    q: &mut Pass,
     n: u32,
-    f: Flow,
     pol: Polarity,
-) -> Settled
-    ensures { SettlesUnion table.now c arena.old work.now h n f pol arena.new result }
+) -> Result<Ending, Refusal>
+    ensures { SettlesUnion table.now c arena.old work.now h n (On q.old) pol arena.new (settled result q.new) }
 {
-    let all = flattened(arena, work, h, n, f, OutputTy::UNION);
-    let flow = all.flow;
-    match flow {
-        Flow::On(q) => {
-            let m = real_members(table, c, arena, all.members);
-            let a = union_normalized(arena, m, pol);
-            let cancelled = top_if_emptied(pol, m);
-            settle(
-                arena,
-                q,
-                a,
-                OutputTy::UNION,
-                cancelled,
-                first_of(all.members),
-            )
-        }
-        Flow::Refused(k) => Settled::Refused(k),
-    }
+    let all = flattened(arena, work, h, n, OutputTy::Union)?;
+    let m = real_members(table, c, arena, all);
+    let a = union_normalized(arena, m, pol);
+    let cancelled = top_if_emptied(pol, m);
+    settle(arena, q, a, OutputTy::Union, cancelled, first_of(all))
 }

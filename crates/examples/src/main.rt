@@ -8,7 +8,6 @@ ghost use Rattle.examples.specs.Records.{Ahead, Behind};
 use programs::Part;
 use rules::Form;
 use std::io;
-use text::Num;
 
 // Room for all records. An input that is longer is cut, and the count tells it.
 fn room() -> [u8; 1048576]
@@ -25,22 +24,13 @@ fn part_at(s: &[u8], a: usize) -> Part
 {
     let n = s.len();
     let end = text::seek(s, a, n, b'\n');
-    if n <= end {
-        return Part { from: n, to: n };
-    }
-    let from = end + 1;
+    let from = n.min(end + 1);
     let tab = text::seek(s, a, end, b'\t');
-    let Num::Is(length) = text::digits_of(s, tab + 1, end) else {
-        return Part { from, to: n };
+    let to = match text::digits_of(s, tab + 1, end) {
+        Some(length) => n.min(from.saturating_add(length as usize)),
+        None => n,
     };
-    let size = length as usize;
-    if n - from < size {
-        return Part { from, to: n };
-    }
-    Part {
-        from,
-        to: from + size,
-    }
+    Part { from, to }
 }
 
 // A record: where what is given begins and ends, and where the answer does.
@@ -70,16 +60,16 @@ fn record_at(s: &[u8], a: usize) -> Record
 
 // What the call that a head names prints, as the first bytes of out; none for a call that is not known.
 fn run(head: &[u8], given: &[u8], out: &mut [u8]) -> u32 {
-    if programs::begins(head, 6, b"canon\t") {
+    if head.starts_with(b"canon\t") {
         return canon_call::program::answer_canon(Form::Plain, given, out);
     }
-    if programs::begins(head, 8, b"recheck\t") {
+    if head.starts_with(b"recheck\t") {
         return recheck_call::program::answer_parts(Form::Plain, given, out);
     }
-    if programs::begins(head, 15, b"canon_numbered\t") {
+    if head.starts_with(b"canon_numbered\t") {
         return canon_call::program::answer_canon(Form::Numbered, given, out);
     }
-    if programs::begins(head, 17, b"recheck_numbered\t") {
+    if head.starts_with(b"recheck_numbered\t") {
         return recheck_call::program::answer_parts(Form::Numbered, given, out);
     }
     0
@@ -89,17 +79,13 @@ fn run(head: &[u8], given: &[u8], out: &mut [u8]) -> u32 {
 fn holds(rt: &impl Print, number: u64, s: &[u8], a: usize, r: Record) -> io::Result<bool>
     requires { Ahead a (length s.now) r }
 {
-    let from = r.from;
-    let mid = r.mid;
-    let start = r.start;
-    let end = r.end;
-    let mut out = programs::out_room();
-    let size = run(&s[a..from], &s[from..mid], &mut out) as usize;
-    if programs::begins(&out, size, &s[start..end]) {
+    let mut out = [0u8; programs::OUT];
+    let size = run(&s[a..r.from], &s[r.from..r.mid], &mut out) as usize;
+    if out.get(..size) == Some(&s[r.start..r.end]) {
         return Ok(true);
     }
     print!(rt; "record {number} differs: ")?;
-    programs::show(rt, &s[a..from], from - a)?;
+    programs::show(rt, &s[a..r.from], r.from - a)?;
     programs::show(rt, &out, size)?;
     Ok(false)
 }
@@ -114,18 +100,20 @@ struct Tally {
 // Tries each record of the input.
 fn try_all(rt: &impl Print, input: &[u8]) -> io::Result<Tally> {
     let n = input.len();
-    let mut tried = 0u64;
-    let mut differ = 0u64;
+    let mut tally = Tally {
+        tried: 0,
+        differ: 0,
+    };
     let mut a = 0;
     while a < n {
         let r = record_at(input, a);
-        tried += 1;
-        if !holds(rt, tried, input, a, r)? {
-            differ += 1;
+        tally.tried += 1;
+        if !holds(rt, tally.tried, input, a, r)? {
+            tally.differ += 1;
         }
         a = r.end;
     }
-    Ok(Tally { tried, differ })
+    Ok(tally)
 }
 
 fn main(rt: HostRuntime) -> io::Result<()> {

@@ -12,7 +12,7 @@ use lib.Dec.{eqb, ltb}
 use borrow.Author.Tests.{eq-eqb, ne_eqb, le-ltb, lt-ltb}
 use Rattle.cells.specs.Part.{run, cell, part, if}
 use Rattle.cells.proofs.Parts.{run_length, part_set_snoc}
-use Rattle.cells.proofs.Holding.{holds_none, holds_at, holds_head}
+use Rattle.cells.proofs.Holding.{holds_at, holds_head}
 use Rattle.rules.specs.Ceilings.{most_members}
 use Rattle.rules.specs.Plain.{any, all, filter, contains}
 use Rattle.rules.specs.Types.{Node, Union, Intersection, State, Out, ok, no, Run, bind, give, store, members, is}
@@ -22,29 +22,26 @@ use Rattle.laws.proofs.Sorting.{sort_sorted, insert_at}
 use Rattle.laws.proofs.Storing.{store_many}
 use Rattle.laws.proofs.Keeping.{later_length, gave, refused_not, keeps_union, keeps_intersection}
 use Rattle.lang_ty.specs.declared.arena.Pass.{Pass}
-use Rattle.lang_ty.specs.declared.arc_ty.Order.{Order}
-use Rattle.lang_ty.specs.declared.arc_ty.Order.TheVariants.{Less, Equal, Greater}
+use Rattle.std.specs.declared.cmp.Ordering.{Ordering}
+use Rattle.std.specs.declared.cmp.Ordering.TheVariants.{Less, Equal, Greater}
 use Rattle.lang_ty.specs.Nodes.{Arena, Stands, Count, Member}
 use Rattle.lang_ty.specs.Orders.{order_of, Compared}
 use Rattle.members.specs.declared.lists.Members.{Members}
-use Rattle.members.specs.declared.lists.Flow.{Flow}
-use Rattle.members.specs.declared.lists.Flow.TheVariants.{On, Refused}
-use Rattle.members.specs.declared.lists.Listed.{Listed}
-use Rattle.members.specs.declared.lists.AtMostOne.{AtMostOne}
-use Rattle.members.specs.declared.lists.AtMostOne.TheVariants.{Refused as RefusedP}
-use Rattle.members.specs.declared.lists.Grown.{Grown}
-use Rattle.members.specs.declared.lists.Grown.TheVariants.{On as OnG, Refused as RefusedG}
-use Rattle.members.specs.Lists.{Few, Lists, Taken, Makes, Tests, Gives, AnswersFlow, Answers, Runs, Asks, Refuses, Contains, Beside, KeepsIf, MembersOf, Gathered}
-use Rattle.members.specs.Lists.{of_kind, sift, Soles, AnswersGrown, Grows, Joined, AsListed, first_of, Pairs}
+use Rattle.members.specs.Flow.{Flow}
+use Rattle.members.specs.Flow.{On, Refused}
+use Rattle.members.specs.Listed.{Listed}
+use Rattle.members.specs.AtMostOne.{AtMostOne}
+use Rattle.members.specs.AtMostOne.{Refused as RefusedP}
+use Rattle.members.specs.Grown.{Grown}
+use Rattle.members.specs.Grown.{On as OnG, Refused as RefusedG}
+use Rattle.members.specs.Lists.{Few, Lists, Taken, Makes, Tests, Gives, AnswersFlow, Answers, Runs, Asks, Contains, MembersOf, Gathered}
+use Rattle.members.specs.Lists.{of_kind, sift, Soles, AnswersPart, AnswersGrown, Grows, Joined, AsListed, first_of, Pairs}
 use Rattle.members.specs.Flattens.{Listing}
 use Rattle.factor.specs.declared.Span.{Span}
-use Rattle.factor.specs.declared.Wanted.{Wanted}
-use Rattle.factor.specs.declared.Wanted.TheVariants.{InAllOthers, NotAmong}
-use Rattle.factor.specs.Factors.{has_member, in_others, picked, Picks, Remains, AnswersMore, Leaves, behind, Within, Probed, Halved, Placed, PutIn, Inserts, Marked}
+use Rattle.factor.specs.Factors.{has_member, in_others, shared_by, not_among, Picks, Remains, AnswersMore, Leaves, behind, Within, Probed, Halved, Placed, PutIn, Inserts, Marked}
 use Rattle.factor.specs.Factors.{SolesAny, beside, FactorsParts, after_rests, FactorsRests, FactorsUnions, FactorsOne}
 use Rattle.laws.proofs.Filtering.{under_both, under_most, any_here, any_more, any_done}
-use Rattle.members.proofs.Gathered.{Tried, Sifting, sifting_start, sifting_more, sifting_done, Searching, searching_start, searching_here, searching_more}
-use Rattle.members.proofs.Gathered.{searching_done, few_lists, few_at, few_below, gathered_none, gathered_few, gathered_list, taken_list, alone, listed, Searched}
+use Rattle.members.proofs.Gathered.{few_lists, few_at, few_below, gathered_none, gathered_few, gathered_list, taken_list}
 use Rattle.members.proofs.Gathered.{all_not, wraps_union, wraps_intersection, refuses}
 use Rattle.members.proofs.Flattened.{by_length}
 use Rattle.lang_ty.proofs.Words.{arena_pass}
@@ -83,53 +80,22 @@ module _ {w : List ℕ} {u x n : ℕ} where
   having_done {i} count c le = record { is = λ {q} {ns} h lt. any_done (eqb x) (members_at ns u) i (c.is h lt) (omega (arith, count.is h lt)) }
 
 -- `in_all_others`: none of the others lacks it
-pub record Lacking (x : ℕ) (w ms : List ℕ) (n i : ℕ) : Type 0 where
-  pub is : Searching alone (λ _ ns u. not (has_member x ns u)) w ms 1 n i
+pub others_by : (x : ℕ) {w : List ℕ} {m : Members} {b : Bool}
+    → ((ns : List Node) (xs : List ℕ) (q : Pass) → Arena w q ns → Taken m xs (length ns) → b ≡ any (λ (u : ℕ). not (has_member x ns u)) (drop 1 xs))
+    → Tests (in_others x) w m (not b)
+others_by x g = record { is = λ {q} {ns} {xs} h m. ap not (g ns xs q h m) ∙ sym (all_not (has_member x ns) (drop 1 xs)) }
 
-others_are : (x : ℕ) {w ms : List ℕ} {n : ℕ} {b : Bool} → Searched alone (λ _ ns u. not (has_member x ns u)) w ms 1 n b → Tests (in_others x) w (first_of n ms) (not b)
-others_are x g = record { is = λ {q} {ns} {xs} h m. ap not (g.is tt h tt m) ∙ sym (all_not (has_member x ns) (drop 1 xs)) }
+pub lacks_if : (x : ℕ) {u : ℕ} {w : List ℕ} {q : Pass} {ns : List Node} {b c : Bool} → Arena w q ns → u < length ns → Asks (has_member x) w u c → b ≡ not c
+    → b ≡ not (has_member x ns u)
+lacks_if x h lt a e = e ∙ ap not (a.is h lt)
 
-pub lacking_start : {x : ℕ} {w ms : List ℕ} {n : ℕ} → Lacking x w ms n 1
-lacking_start = record { is = searching_start }
+-- `shared_members` and `unshared_members`
+pub shared_if : (x : ℕ) {w : List ℕ} {m : Members} {q : Pass} {ns : List Node} {xs : List ℕ} {b c : Bool} → Arena w q ns → Taken m xs (length ns) → Tests (in_others x) w m c → b ≡ c
+    → b ≡ shared_by ns xs x
+shared_if x h m t e = e ∙ t.is h m
 
-module _ {x : ℕ} {w ms : List ℕ} {n i : ℕ} (c : Lacking x w ms n i) where
-  module _ {u : ℕ} {b : Bool} (a : Asks (has_member x) w u b) (e : u ≡ cell ms i) (lt : i < n) where
-    tried : Tried alone (λ _ ns u. not (has_member x ns u)) w u (not b)
-    tried = record { is = λ _ h p l. ap not (a.is h l) }
-
-    pub lacking_here : not b ≡ true → Tests (in_others x) w (first_of n ms) false
-    lacking_here z = others_are x (searching_here c.is lt e tried z)
-
-    pub lacking_more : not b ≡ false → Lacking x w ms n (i + 1)
-    lacking_more z = record { is = searching_more c.is lt e tried z }
-
-  pub lacking_done : n ≤ i → Tests (in_others x) w (first_of n ms) true
-  lacking_done le = others_are x (searching_done c.is le)
-
--- `is_picked` and `pick`
-module _ {t : Wanted} {w ms : List ℕ} {n x : ℕ} {r : Bool} where
-  picked_by : {u : Wanted} → t ≡ u → Beside (picked u) w ms n x r → Beside (picked t) w ms n x r
-  picked_by e h = subst (λ (v : Wanted). Beside (picked v) w ms n x r) (sym e) h
-
-  pub picked_others : t ≡ InAllOthers → Tests (in_others x) w (first_of n ms) r → Beside (picked t) w ms n x r
-  picked_others e h = picked_by e (record { is = λ a m lt. h.is a m })
-
-  pub picked_among : {b : Bool} → t ≡ NotAmong → Contains ms n x b → r ≡ not b → Beside (picked t) w ms n x r
-  picked_among e h z = picked_by e (record { is = λ a m lt. z ∙ ap not (h.is ∙ ap (λ (l : List ℕ). contains l x) (taken_list m)) })
-
-pub record Picking (t : Wanted) (w s : List ℕ) (n : ℕ) (m : Members) (out : List ℕ) (k i : ℕ) : Type 0 where
-  pub is : Sifting (listed s n) (λ xs ns. picked t ns xs) w m.at m.count out k i
-
-pub picking_start : {t : Wanted} {w s : List ℕ} {n : ℕ} {m : Members} → Picking t w s n m (replicate most_members 0) 0 0
-picking_start = record { is = sifting_start }
-
-module _ {t : Wanted} {w s : List ℕ} {n : ℕ} {m : Members} {out : List ℕ} {k i : ℕ} (c : Picking t w s n m out k i) where
-  pub picking_more : {x : ℕ} {b : Bool} {out' : List ℕ} {k' : ℕ} → KeepsIf out k x b out' k' → Beside (picked t) w s n x b → x ≡ cell m.at i → i < m.count
-      → Picking t w s n m out' k' (i + 1)
-  picking_more keeps a e lt = record { is = sifting_more c.is lt e (record { is = λ xs h l le. a.is h l le }) keeps }
-
-  pub picking_done : {u : ℕ} → MembersOf w u m → m.count ≤ i → Picks (picked t) w s n u (first_of k out)
-  picking_done a le = record { is = λ {q} {ns} {xs} h l lt. (sifting_done c.is le).is xs h l (a.is h lt) }
+pub among_if : (x : ℕ) (ns : List Node) {m : Members} {xs : List ℕ} {k : ℕ} {b c : Bool} → Taken m xs k → Contains m.at m.count x c → b ≡ not c → b ≡ not_among ns xs x
+among_if x ns m h e = e ∙ ap not (h.is ∙ ap (λ (l : List ℕ). contains l x) (taken_list m))
 
 -- `sole` gives no more than one
 one_most : (o : Out ℕ) {l : List ℕ} {st : State} → bind o (λ z. give (z ∷ [])) ≡ ok l st → length l ≤ 1
@@ -142,7 +108,7 @@ sole_most wrap (x ∷ []) st e = gave (λ l st. length l ≤ 1) e (omega arith)
 sole_most wrap (x ∷ y ∷ xs) st e = one_most (store (wrap (x ∷ y ∷ xs)) st) e
 
 -- `remainder`
-pub remains_is : {w ms out w' out' : List ℕ} {q : Pass} {n u k : ℕ} {rest : Members} {p : AtMostOne} {r : Grown} → Picks (picked NotAmong) w ms n u rest
+pub remains_is : {w ms out w' out' : List ℕ} {q : Pass} {n u k : ℕ} {rest : Members} {p : AtMostOne} {r : Grown} → Picks not_among w ms n u rest
     → Soles 5 w q rest w' p → Grows out k p out' r → Remains w q ms n u out k w' out' r
 remains_is {w' = w'} {u = u} a b g =
     record {
@@ -151,6 +117,15 @@ remains_is {w' = w'} {u = u} a b g =
           g.is (sole Union (without xs (members_at st.nodes u)) st) w'
           (b.is wraps_union on (taken_most (omega arith) (a.is on.arena (taken_most (omega arith) t) (omega arith))))
           gathered le;
+    }
+
+pub remains_refused : {w ms out out' w' : List ℕ} {q : Pass} {n u k j : ℕ} {rest : Members} → Picks not_among w ms n u rest → Soles 5 w q rest w' (RefusedP j)
+    → Remains w q ms n u out k w' out' (RefusedG j)
+remains_refused a b =
+    record {
+      is = λ {st} {xs} {got} on t lt gathered le.
+          let e = on.arena.count in
+          b.is wraps_union on (taken_most (omega arith) (a.is on.arena (taken_most (omega arith) t) (omega arith)));
     }
 
 -- `remainders` at union i
@@ -195,11 +170,11 @@ module _ {w₀ : List ℕ} {p : Pass} {s us : Members} where
           is = λ {st} {xs} {ys} on t m. partway_more (rest_loops xs) (a.is on t m) (omega (arith, m.list.count)) (called z on t m);
         }
 
-    pub leaves_refused : {j : ℕ} {res : Listed} → g ≡ RefusedG j → Refuses j res → Leaves w₀ p s us w' res
+    pub leaves_refused : {j : ℕ} {res : Listed} → g ≡ RefusedG j → res.flow ≡ Refused j → Leaves w₀ p s us w' res
     leaves_refused {j} {res} z f =
         record {
           is = λ {st} {xs} {us = ys} on t m.
-              subst (λ (h : Flow). AnswersMore p.nodes (remainders xs ys st) w' res.members h) (sym f.is)
+              subst (λ (h : Flow). AnswersMore p.nodes (remainders xs ys st) w' res.members h) (sym f)
               (partway_no (rest_loops xs) (a.is on t m) (omega (arith, m.list.count)) (called z on t m));
         }
 
@@ -222,9 +197,9 @@ module _ {w₀ : List ℕ} {p : Pass} {s us : Members} where
       }
 
 -- `is_behind`
-module _ {w : List ℕ} {y x : ℕ} {o : Order} (c : Compared w y x o) where
-  behind_by : {p : Order} → o ≡ p → Pairs behind w y x (is_greater (order_of p))
-  behind_by e = record { is = λ {q} {ns} h ly lx. ap (λ (p : Order). is_greater (order_of p)) (sym e) ∙ ap is_greater (c.is h ly lx) }
+module _ {w : List ℕ} {y x : ℕ} {o : Ordering} (c : Compared w y x o) where
+  behind_by : {p : Ordering} → o ≡ p → Pairs behind w y x (is_greater (order_of p))
+  behind_by e = record { is = λ {q} {ns} h ly lx. ap (λ (p : Ordering). is_greater (order_of p)) (sym e) ∙ ap is_greater (c.is h ly lx) }
 
   pub behind_less : o ≡ Less → Pairs behind w y x false
   behind_less e = behind_by e
@@ -523,12 +498,17 @@ module _ {w w₁ : List ℕ} {q : Pass} {parts : Members} {first : AtMostOne} {i
             })));
       }
 
-  pub parts_refused : {k : ℕ} {shared : Members} {res : Listed} → inner.flow ≡ Refused k → Refuses k res → FactorsParts w q shared parts w₁ res
-  parts_refused e f =
-      record {
-        is = λ {st} {xs} {ys} on t l.
-            refuses (beside xs ys st) w₁ f (ap (λ (o : Out (List ℕ)). bind o (λ z. sole Union (xs ++ z))) (inner_is e on l));
-      }
+pub parts_refused : {w w₁ : List ℕ} {q : Pass} {parts shared : Members} {k : ℕ} {res : Listed} → SolesAny 6 w q parts w₁ (RefusedP k) → res.flow ≡ Refused k
+    → FactorsParts w q shared parts w₁ res
+parts_refused {w₁ = w₁} {res = res} one f =
+    record {
+      is = λ {st} {xs} {ys} on t l.
+          refuses res (beside xs ys st) w₁ f (ap (λ (o : Out (List ℕ)). bind o (λ z. sole Union (xs ++ z))) (one.is wraps_intersection on l));
+    }
+
+-- a refusal of `sole` as one of a list
+pub listed_refused : {k : ℕ} {m : Members} → AsListed (RefusedP k) (record { flow = Refused k; members = m })
+listed_refused = record { is = λ o w a. a }
 
 -- `factor_rests`
 module _ {w : List ℕ} {rests : Listed} {shared others : Members} where
@@ -554,19 +534,20 @@ module _ {w : List ℕ} {rests : Listed} {shared others : Members} where
             }));
       }
 
-  pub rests_refused : {j : ℕ} {res : Listed} → rests.flow ≡ Refused j → Refuses j res → FactorsRests w rests shared others w res
-  rests_refused {j} {res} e f =
-      record {
-        is = λ k o {xs} {ys} a ts ty.
-            refuses (bind o (after_rests xs ys)) w f
-            (ap (λ (o : Out (List ℕ)). bind o (after_rests xs ys)) (subst (λ (f : Flow). AnswersMore k o w rests.members f) e a));
-      }
+pub rests_refused : {w : List ℕ} {rests : Listed} {shared others : Members} {j : ℕ} {res : Listed} → rests.flow ≡ Refused j → res.flow ≡ Refused j
+    → FactorsRests w rests shared others w res
+rests_refused {w} {rests} {res = res} e f =
+    record {
+      is = λ k o {xs} {ys} a ts ty.
+          refuses res (bind o (after_rests xs ys)) w f
+          (ap (λ (o : Out (List ℕ)). bind o (after_rests xs ys)) (subst (λ (f : Flow). AnswersMore k o w rests.members f) e a));
+    }
 
 -- `factor_unions`: the members of u that all of us have
 abbrev shared_of : List Node → ℕ → List ℕ → List ℕ
 shared_of ns u us = filter (λ (m : ℕ). all (λ (z : ℕ). contains (members_at ns z) m) us) (members_at ns u)
 
-module _ {w : List ℕ} {q : Pass} {unions shared : Members} (picks : Picks (picked InAllOthers) w unions.at unions.count (cell unions.at 0) shared) where
+module _ {w : List ℕ} {q : Pass} {unions shared : Members} (picks : Picks shared_by w unions.at unions.count (cell unions.at 0) shared) where
   shared_is : {st : State} {u v : ℕ} {us : List ℕ} → Stands st w q → Taken unions (u ∷ v ∷ us) q.nodes
       → Taken shared (shared_of st.nodes u (v ∷ us)) q.nodes
   shared_is {st} {u} {v} {us} on t =
@@ -574,7 +555,7 @@ module _ {w : List ℕ} {q : Pass} {unions shared : Members} (picks : Picks (pic
       let z = holds_head t.list.holds in
       let b = t.below.0 in
       taken_most (omega arith)
-      (subst (λ (x : ℕ). Taken shared (filter (picked InAllOthers st.nodes (u ∷ v ∷ us)) (members_at st.nodes x)) (length st.nodes)) z
+      (subst (λ (x : ℕ). Taken shared (filter (shared_by st.nodes (u ∷ v ∷ us)) (members_at st.nodes x)) (length st.nodes)) z
       (picks.is on.arena (taken_most (omega arith) t) (omega arith)))
 
   none_turn : {st : State} {others all : Members} (ys zs l : List ℕ) → Stands st w q → Taken others ys q.nodes → Taken unions zs q.nodes → length ys + length zs ≤ most_members
@@ -615,48 +596,42 @@ module _ {w : List ℕ} {q : Pass} {unions shared : Members} (picks : Picks (pic
               some_turn ys (u ∷ v ∷ us) (shared_of st.nodes u (v ∷ us)) on ty tz (shared_is on tz);
         }
 
--- `factor_one`: all members of the union are kept
-filter_every : (ns : List Node) (ms : List ℕ) → filter (picked NotAmong ns []) ms ≡ ms
-filter_every ns [] = refl
-filter_every ns (m ∷ ms) = ap (λ (l : List ℕ). m ∷ l) (filter_every ns ms)
+-- `factor_one`
+module _ {w w' : List ℕ} {q : Pass} {u : ℕ} {whole : Members} {p : AtMostOne} (all : MembersOf w u whole) (one : Soles 5 w q whole w' p) where
+  last_by : {st : State} → Stands st w q → u < q.nodes → AnswersPart (sole Union (members_at st.nodes u) st) w' p
+  last_by {st} on lt = one.is wraps_union on (taken_most (omega (arith, on.arena.count)) (all.is on.arena (omega (arith, on.arena.count))))
 
-module _ {w w' ms : List ℕ} {q : Pass} {u : ℕ} {whole : Members} {p : AtMostOne} {last : Listed} (picks : Picks (picked NotAmong) w ms 0 u whole) (one : Soles 5 w q whole w' p)
-    (list : AsListed p last) where
-  last_is : {f : Flow} {st : State} → last.flow ≡ f → Stands st w q → u < q.nodes → AnswersFlow (sole Union (members_at st.nodes u) st) w' last.members f
-  last_is {f} {st} e on lt =
-      let d = on.arena.count in
-      let o = sole Union (members_at st.nodes u) st in
-      subst (λ (f : Flow). AnswersFlow o w' last.members f) e
-      (list.is o w'
-      (one.is wraps_union on
-      (taken_most (omega arith)
-      (subst (λ (l : List ℕ). Taken whole l (length st.nodes)) (filter_every st.nodes (members_at st.nodes u))
-      (picks.is {xs = []} on.arena (record { list = record { count = refl; holds = holds_none ms 0; few = omega arith }; below = tt }) (omega arith))))))
+  module _ {last : Listed} (list : AsListed p last) where
+    last_is : {f : Flow} {st : State} → last.flow ≡ f → Stands st w q → u < q.nodes → AnswersFlow (sole Union (members_at st.nodes u) st) w' last.members f
+    last_is {f} {st} e on lt =
+        let o = sole Union (members_at st.nodes u) st in
+        subst (λ (f : Flow). AnswersFlow o w' last.members f) e (list.is o w' (last_by on lt))
 
-  pub one_on : {r : Pass} {others all : Members} → last.flow ≡ On r → Joined others last.members all → FactorsOne w q others u w' (record { flow = On r; members = all })
-  one_on {r} e j =
-      record {
-        is = λ {st} {ys} on t few lt.
-            let a : Gives (sole Union (members_at st.nodes u) st) w' last.members r = last_is e on lt in
-            let m = later_length (keeps_union (members_at st.nodes u) st a.list a.after a.is) in
-            let d = on.arena.count in
-            record {
-              after = a.after;
-              list = ys ++ a.list;
-              is = ap (λ (o : Out (List ℕ)). bind o (λ z. give (ys ++ z))) a.is;
-              stands = a.stands;
-              taken = record {
-                list = (j.is (few_lists t.list) (few_lists a.taken.list)).fit (omega (arith, length-append ys a.list, sole_most Union (members_at st.nodes u) st a.is));
-                below = under_both (length a.after.nodes) ys a.list (under_most q.nodes (length a.after.nodes) ys (omega arith) t.below) a.taken.below;
+    pub one_on : {r : Pass} {others all : Members} → last.flow ≡ On r → Joined others last.members all → FactorsOne w q others u w' (record { flow = On r; members = all })
+    one_on {r} e j =
+        record {
+          is = λ {st} {ys} on t few lt.
+              let a : Gives (sole Union (members_at st.nodes u) st) w' last.members r = last_is e on lt in
+              let m = later_length (keeps_union (members_at st.nodes u) st a.list a.after a.is) in
+              let d = on.arena.count in
+              record {
+                after = a.after;
+                list = ys ++ a.list;
+                is = ap (λ (o : Out (List ℕ)). bind o (λ z. give (ys ++ z))) a.is;
+                stands = a.stands;
+                taken = record {
+                  list = (j.is (few_lists t.list) (few_lists a.taken.list)).fit (omega (arith, length-append ys a.list, sole_most Union (members_at st.nodes u) st a.is));
+                  below = under_both (length a.after.nodes) ys a.list (under_most q.nodes (length a.after.nodes) ys (omega arith) t.below) a.taken.below;
+                };
               };
-            };
-      }
+        }
 
-  pub one_refused : {k : ℕ} {others : Members} {res : Listed} → last.flow ≡ Refused k → Refuses k res → FactorsOne w q others u w' res
-  one_refused e f =
+  pub one_refused : {k : ℕ} {others : Members} {res : Listed} → p ≡ RefusedP k → res.flow ≡ Refused k → FactorsOne w q others u w' res
+  one_refused {res = res} e f =
       record {
         is = λ {st} {ys} on t few lt.
-            refuses (factor_unions ys (u ∷ []) st) w' f (ap (λ (o : Out (List ℕ)). bind o (λ z. give (ys ++ z))) (last_is e on lt));
+            refuses res (factor_unions ys (u ∷ []) st) w' f
+            (ap (λ (o : Out (List ℕ)). bind o (λ z. give (ys ++ z))) (subst (λ (v : AtMostOne). AnswersPart (sole Union (members_at st.nodes u) st) w' v) e (last_by on lt)));
       }
 
 -- `factor_shared_from_intersection`: the unions and the others are the members

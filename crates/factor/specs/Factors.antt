@@ -8,17 +8,15 @@ use Rattle.rules.specs.Members.{members_at, without, sole, mark_sorted, remainde
 use Rattle.lang_ty.specs.declared.arena.Pass.{Pass}
 use Rattle.lang_ty.specs.Nodes.{Arena, Stands}
 use Rattle.members.specs.declared.lists.Members.{Members}
-use Rattle.members.specs.declared.lists.Flow.{Flow}
-use Rattle.members.specs.declared.lists.Flow.TheVariants.{On, Refused}
-use Rattle.members.specs.declared.lists.Listed.{Listed}
-use Rattle.members.specs.declared.lists.AtMostOne.{AtMostOne}
-use Rattle.members.specs.declared.lists.Grown.{Grown}
+use Rattle.members.specs.Flow.{Flow}
+use Rattle.members.specs.Flow.{On, Refused}
+use Rattle.members.specs.Listed.{Listed}
+use Rattle.members.specs.AtMostOne.{AtMostOne}
+use Rattle.members.specs.Grown.{Grown}
 use Rattle.members.specs.Lists.{Taken, Gives, Answers, Gathered, Wraps, AnswersPart, AnswersGrown, first_of}
 use Rattle.members.specs.Flattens.{Listing}
 use Rattle.cells.specs.Placed.{Under}
 use Rattle.factor.specs.declared.Span.{Span}
-use Rattle.factor.specs.declared.Wanted.{Wanted}
-use Rattle.factor.specs.declared.Wanted.TheVariants.{InAllOthers, NotAmong}
 
 -- x is a member of node u
 abbrev pub has_member : ℕ → List Node → ℕ → Bool
@@ -28,9 +26,12 @@ has_member x ns u = contains (members_at ns u) x
 abbrev pub in_others : ℕ → List Node → List ℕ → Bool
 in_others x ns xs = all (has_member x ns) (drop 1 xs)
 
-abbrev pub picked : Wanted → List Node → List ℕ → ℕ → Bool
-picked InAllOthers ns xs x = in_others x ns xs
-picked NotAmong ns xs x = not (contains xs x)
+-- x is a member of all unions but the first, and x is not among the shared members
+abbrev pub shared_by : List Node → List ℕ → ℕ → Bool
+shared_by ns us x = in_others x ns us
+
+abbrev pub not_among : List Node → List ℕ → ℕ → Bool
+not_among ns xs x = not (contains xs x)
 
 -- the members of node u that the test f beside xs keeps
 pub record Picks (f : List Node → List ℕ → ℕ → Bool) (w ms : List ℕ) (n u : ℕ) (r : Members) : Type 0 where

@@ -1,130 +1,88 @@
 // Factoring: members that all unions of an intersection share come out of it.
 #![tactic(auto)]
 
-ghost use Rattle.std.specs.Prelude.{◌<◌};
+ghost use Rattle.std.specs.Prelude.{◌<◌, Ok};
+ghost use Rattle.lang_ty.specs.Nodes.{code};
+ghost use Rattle.members.specs.AtMostOne.{at_most_one};
+ghost use Rattle.members.specs.Grown.{grown};
+ghost use Rattle.members.specs.Listed.{listed};
 ghost use Rattle.rules.specs.Members.{factor_shared_from_intersection};
 ghost use Rattle.rules.specs.Order.{sort};
-ghost use Rattle.members.specs.Lists.{Makes, Tests, Runs, Asks, Pairs, Beside, first_of};
-ghost use Rattle.factor.specs.Factors.{has_member, in_others, picked, Picks, Remains, Leaves, behind, Probed, Halved, Placed, PutIn, Inserts, Marked, SolesAny};
+ghost use Rattle.members.specs.Lists.{Makes, Tests, Runs, Asks, Pairs};
+ghost use Rattle.factor.specs.Factors.{has_member, in_others, shared_by, not_among, Picks, Remains, Leaves, behind, Probed, Halved, Placed, PutIn, Inserts, Marked, SolesAny};
 ghost use Rattle.factor.specs.Factors.{FactorsParts, FactorsRests, FactorsUnions, FactorsOne};
 
 use cells::{at, set};
-use lang_ty::arc_ty::Order;
 use lang_ty::arena::{OutputTy, Pass};
 use lang_ty::{arc_ty, arena};
-use members::lists::{
-    AtMostOne, Flow, Grown, Listed, Members, as_listed, contains, grow, joined, keep_if,
-    members_of, of_kind, refused, sole,
-};
+use members::lists::{Members, contains, grow, joined, members_of, of_at_most_one, of_kind, sole};
+use rules::Refusal;
+use std::cmp::Ordering;
 
 // Whether every union of the list but the first has the member x.
-fn in_all_others(arena: &[u32], s: &[u32], n: u32, x: u32) -> bool
-    ensures { Tests (in_others x) arena.now (first_of n s.now) result }
+fn in_all_others(arena: &[u32], unions: &Members, x: u32) -> bool
+    ensures { Tests (in_others x) arena.now unions.now result }
 {
-    let mut i = 1;
-    while i < n {
-        if !has_member(arena, at(s, i), x) {
-            return false;
-        }
-        i += 1;
-    }
-    true
+    !unions.any_from(1, |u| !has_member(arena, u, x))
 }
 
 fn has_member(arena: &[u32], u: u32, x: u32) -> bool
     ensures { Asks (has_member x) arena.now u result }
 {
     let n = arena::count(arena, u);
-    let mut i = 0;
-    while i < n {
+    for i in 0..n {
         if arena::member(arena, u, i) == x {
             return true;
         }
-        i += 1;
     }
     false
 }
 
-// Which members of a union are picked, beside a list: those that all but its first have, or those that are not in it.
-#[derive(Clone, Copy)]
-enum Wanted {
-    InAllOthers,
-    NotAmong,
-}
-
-fn is_picked(arena: &[u32], t: Wanted, s: &[u32], n: u32, x: u32) -> bool
-    ensures { Beside (picked t) arena.now s.now n x result }
+// The members of union u that all unions but the first have.
+fn shared_members(arena: &[u32], unions: &Members, u: u32) -> Members
+    ensures { Picks shared_by arena.now unions.now.at unions.now.count u result }
 {
-    match t {
-        Wanted::InAllOthers => in_all_others(arena, s, n, x),
-        Wanted::NotAmong => !contains(s, n, x),
-    }
+    members_of(arena, u).sift(|x| in_all_others(arena, unions, x))
 }
 
-// The members of union u that are picked beside the first n cells of s.
-fn pick(arena: &[u32], t: Wanted, s: &[u32], n: u32, u: u32) -> Members
-    ensures { Picks (picked t) arena.now s.now n u result }
+// The members of union u that are not shared.
+fn unshared_members(arena: &[u32], shared: &Members, u: u32) -> Members
+    ensures { Picks not_among arena.now shared.now.at shared.now.count u result }
 {
-    let m = members_of(arena, u);
-    let ms = m.at;
-    let c = m.count;
-    let mut out = [0u32; 128];
-    let mut k = 0;
-    let mut i = 0;
-    while i < c {
-        let x = at(&ms, i);
-        k = keep_if(&mut out, k, x, is_picked(arena, t, s, n, x));
-        i += 1;
-    }
-    Members { count: k, at: out }
+    members_of(arena, u).sift(|x| !contains(&shared.at, shared.count, x))
 }
 
-// What is left of union u without the first n cells of s, put after the first k cells of out.
+// What is left of union u without the shared members, put after the first k cells of out; how many there are then.
 fn remainder(
     arena: &mut [u32],
-    q: Pass,
-    s: &[u32],
-    n: u32,
+    q: &mut Pass,
+    shared: &Members,
     u: u32,
     out: &mut [u32],
     k: u32,
-) -> Grown
-    ensures { Remains arena.old q s.now n u out.old k arena.new out.new result }
+) -> Result<u32, Refusal>
+    ensures { Remains arena.old q.old shared.now.at shared.now.count u out.old k arena.new out.new (grown result q.new) }
 {
-    let rest = pick(arena, Wanted::NotAmong, s, n, u);
-    let part = sole(arena, q, OutputTy::UNION, rest);
-    grow(out, k, part)
+    let rest = unshared_members(arena, shared, u);
+    let part = sole(arena, q, OutputTy::Union, rest)?;
+    Ok(grow(out, k, part))
 }
 
 // Each union without the shared members.
-fn remainders(arena: &mut [u32], p: Pass, shared: Members, unions: Members) -> Listed
-    ensures { Leaves arena.old p shared unions arena.new result }
+fn remainders(
+    arena: &mut [u32],
+    q: &mut Pass,
+    shared: &Members,
+    unions: &Members,
+) -> Result<Members, Refusal>
+    ensures { Leaves arena.old q.old shared.now unions.now arena.new (listed result q.new) }
 {
-    let s = shared.at;
-    let m = shared.count;
-    let us = unions.at;
-    let n = unions.count;
     let mut out = [0u32; 128];
     let mut k = 0;
-    let mut q = p;
-    let mut i = 0;
-    while i < n {
-        match remainder(arena, q, &s, m, at(&us, i), &mut out, k) {
-            Grown::On(more, r) => {
-                k = more;
-                q = r;
-                i += 1;
-            }
-            Grown::Refused(why) => {
-                return refused(why);
-            }
-        }
+    for i in 0..unions.count {
+        k = remainder(arena, q, shared, at(&unions.at, i), &mut out, k)?;
     }
-    let found = Members { count: k, at: out };
-    Listed {
-        flow: Flow::On(q),
-        members: found,
-    }
+    Ok(Members { count: k, at: out })
 }
 
 // Whether node y comes after node x in the order of nodes.
@@ -132,9 +90,8 @@ fn is_behind(arena: &[u32], y: u32, x: u32) -> bool
     ensures { Pairs behind arena.now y x result }
 {
     match arc_ty::compare(arena, y, x) {
-        Order::Less => false,
-        Order::Equal => false,
-        Order::Greater => true,
+        Ordering::Less | Ordering::Equal => false,
+        Ordering::Greater => true,
     }
 }
 
@@ -213,128 +170,106 @@ fn sort(arena: &[u32], m: Members) -> Members
     let ms = m.at;
     let n = m.count;
     let mut out = [0u32; 128];
-    let mut i = 0;
-    while i < n {
+    for i in 0..n {
         insert(arena, &mut out, i, at(&ms, i));
-        i += 1;
     }
     Members { count: n, at: out }
 }
 
-// The pass with the sorted mark where two members or more are shared.
-fn mark_sorted(q: Pass, n: u32) -> Pass
-    ensures { Marked q n result }
+// The sorted mark where two members or more are shared.
+fn mark_sorted(q: &mut Pass, n: u32)
+    ensures { Marked q.old n q.new }
 {
-    if n < 2 {
-        return q;
-    }
-    Pass {
-        nodes: q.nodes,
-        cells: q.cells,
-        ops: q.ops,
-        sorted: true,
-        bailed: q.bailed,
+    if 2 <= n {
+        q.sorted = true;
     }
 }
 
-// `sole` of a list that may be more than fit: 7 then.
-fn sole_of_any(arena: &mut [u32], q: Pass, kind: u32, m: Members) -> AtMostOne
-    ensures { SolesAny kind arena.old q m arena.new result }
+// `sole` of a list that may be more than fit: a refusal then.
+fn sole_of_any(
+    arena: &mut [u32],
+    q: &mut Pass,
+    kind: OutputTy,
+    m: Members,
+) -> Result<Option<u32>, Refusal>
+    ensures { SolesAny (code kind) arena.old q.old m arena.new (at_most_one result q.new) }
 {
     if Pass::MEMBERS < m.count {
-        return AtMostOne::Refused(7);
+        return Err(Refusal::Members);
     }
     sole(arena, q, kind, m)
 }
 
 // The shared members beside the intersection of the parts.
-fn factored(arena: &mut [u32], q: Pass, shared: Members, parts: Members) -> Listed
-    ensures { FactorsParts arena.old q shared parts arena.new result }
+fn factored(
+    arena: &mut [u32],
+    q: &mut Pass,
+    shared: Members,
+    parts: Members,
+) -> Result<Members, Refusal>
+    ensures { FactorsParts arena.old q.old shared parts arena.new (listed result q.new) }
 {
-    let first = sole_of_any(arena, q, OutputTy::INTERSECTION, parts);
-    let inner = as_listed(first);
-    let flow = inner.flow;
-    match flow {
-        Flow::On(r) => {
-            let all = joined(shared, inner.members);
-            let whole = sole_of_any(arena, r, OutputTy::UNION, all);
-            as_listed(whole)
-        }
-        Flow::Refused(k) => refused(k),
-    }
+    let inner = sole_of_any(arena, q, OutputTy::Intersection, parts)?;
+    let all = joined(shared, of_at_most_one(inner));
+    let whole = sole_of_any(arena, q, OutputTy::Union, all)?;
+    Ok(of_at_most_one(whole))
 }
 
 // The shared members in order beside what is left of the unions and the other members.
-fn factor_rests(arena: &mut [u32], rests: Listed, shared: Members, others: Members) -> Listed
-    ensures { FactorsRests arena.old rests shared others arena.new result }
+fn factor_rests(
+    arena: &mut [u32],
+    q: &mut Pass,
+    rests: Members,
+    shared: Members,
+    others: Members,
+) -> Result<Members, Refusal>
+    ensures { FactorsRests arena.old (listed (Ok rests) q.old) shared others arena.new (listed result q.new) }
 {
-    let flow = rests.flow;
-    match flow {
-        Flow::On(q) => {
-            let inorder = sort(arena, shared);
-            let parts = joined(rests.members, others);
-            let p = mark_sorted(q, inorder.count);
-            factored(arena, p, inorder, parts)
-        }
-        Flow::Refused(k) => refused(k),
-    }
+    let inorder = sort(arena, shared);
+    let parts = joined(rests, others);
+    mark_sorted(q, inorder.count);
+    factored(arena, q, inorder, parts)
 }
 
 // factor_shared_from_intersection with two unions or more.
-fn factor_unions(arena: &mut [u32], q: Pass, others: Members, unions: Members) -> Listed
-    ensures { FactorsUnions arena.old q others unions arena.new result }
+fn factor_unions(
+    arena: &mut [u32],
+    q: &mut Pass,
+    others: Members,
+    unions: Members,
+) -> Result<Members, Refusal>
+    ensures { FactorsUnions arena.old q.old others unions arena.new (listed result q.new) }
 {
-    let s = unions.at;
-    let u = s[0];
-    let shared = pick(arena, Wanted::InAllOthers, &s, unions.count, u);
+    let shared = shared_members(arena, &unions, unions.at[0]);
     if shared.count == 0 {
-        let all = joined(others, unions);
-        return Listed {
-            flow: Flow::On(q),
-            members: all,
-        };
+        return Ok(joined(others, unions));
     }
-    let rests = remainders(arena, q, shared, unions);
-    factor_rests(arena, rests, shared, others)
+    let rests = remainders(arena, q, &shared, &unions)?;
+    factor_rests(arena, q, rests, shared, others)
 }
 
 // A sole union goes last, and one of one member is unwrapped. It is stored again, which gives its own number.
-fn factor_one(arena: &mut [u32], q: Pass, others: Members, u: u32) -> Listed
-    ensures { FactorsOne arena.old q others u arena.new result }
+fn factor_one(arena: &mut [u32], q: &mut Pass, others: Members, u: u32) -> Result<Members, Refusal>
+    ensures { FactorsOne arena.old q.old others u arena.new (listed result q.new) }
 {
-    let s = [0u32; 128];
-    let whole = pick(arena, Wanted::NotAmong, &s, 0, u);
-    let part = sole(arena, q, OutputTy::UNION, whole);
-    let last = as_listed(part);
-    let flow = last.flow;
-    match flow {
-        Flow::On(r) => {
-            let all = joined(others, last.members);
-            Listed {
-                flow: Flow::On(r),
-                members: all,
-            }
-        }
-        Flow::Refused(k) => refused(k),
-    }
+    let whole = members_of(arena, u);
+    let last = sole(arena, q, OutputTy::Union, whole)?;
+    Ok(joined(others, of_at_most_one(last)))
 }
 
 // factor_shared_from_intersection
-pub fn factor_shared_from_intersection(arena: &mut [u32], q: Pass, m: Members) -> Listed
-    ensures { Runs factor_shared_from_intersection arena.old q m arena.new result }
+pub fn factor_shared_from_intersection(
+    arena: &mut [u32],
+    q: &mut Pass,
+    m: Members,
+) -> Result<Members, Refusal>
+    ensures { Runs factor_shared_from_intersection arena.old q.old m arena.new (listed result q.new) }
 {
-    let unions = of_kind(arena, m, OutputTy::UNION, true);
-    let others = of_kind(arena, m, OutputTy::UNION, false);
-    let n = unions.count;
-    if n == 0 {
-        return Listed {
-            flow: Flow::On(q),
-            members: others,
-        };
+    let unions = of_kind(arena, m, OutputTy::Union, true);
+    let others = of_kind(arena, m, OutputTy::Union, false);
+    match unions.count {
+        0 => Ok(others),
+        1 => factor_one(arena, q, others, unions.at[0]),
+        _ => factor_unions(arena, q, others, unions),
     }
-    if n == 1 {
-        let s = unions.at;
-        return factor_one(arena, q, others, s[0]);
-    }
-    factor_unions(arena, q, others, unions)
 }

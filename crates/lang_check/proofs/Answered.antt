@@ -13,13 +13,13 @@ use Rattle.rules.specs.declared.Polarity.{Polarity}
 use Rattle.laws.proofs.Keeping.{gave, refused_not}
 use Rattle.laws.proofs.Moving.{Moved, Firm, Goes, Goer, Went, Any, any_stays, Answers as Answered, goes_each, goes_bind, goes_give}
 use Rattle.laws.proofs.Rooting.{Below}
-use Rattle.lang_ty.specs.declared.arena.Given.{Given}
-use Rattle.lang_ty.specs.declared.arena.Given.TheVariants.{Node as NodeG, Refused}
+use Rattle.lang_ty.specs.Given.{Given}
+use Rattle.lang_ty.specs.Given.{Node as NodeG, Refused}
 use Rattle.lang_ty.specs.Nodes.{Answers as Stores}
 use Rattle.storage.specs.declared.given.Canon.{Canon}
 use Rattle.storage.specs.Passes.{Knows}
-use Rattle.members.specs.declared.lists.Flow.{Flow}
-use Rattle.members.specs.declared.lists.Flow.TheVariants.{On, Refused as RefusedF}
+use Rattle.members.specs.Flow.{Flow}
+use Rattle.members.specs.Flow.{On, Refused as RefusedF}
 use Rattle.merge.specs.Merges.{Roomy}
 use Rattle.composites.specs.Places.{GivenTo, Visited}
 use Rattle.lang_check.specs.Cycle.{Keyed, Poised, KeptBelow, Answers, AnswersHeld, visited}

@@ -17,10 +17,10 @@ use Rattle.rules.specs.Canonicalizer as runs
 use Rattle.rules.specs.declared.Polarity.{Polarity}
 use Rattle.laws.proofs.Moving.{Moved, moved_none, moved_both}
 use Rattle.lang_ty.specs.declared.arena.Pass.{Pass}
-use Rattle.lang_ty.specs.declared.arena.Given.{Given}
-use Rattle.lang_ty.specs.declared.arena.Given.TheVariants.{Node, Refused}
+use Rattle.lang_ty.specs.Given.{Given}
+use Rattle.lang_ty.specs.Given.{Node, Refused}
 use Rattle.lang_ty.specs.Nodes.{Stands}
-use Rattle.members.specs.declared.lists.Flow.TheVariants.{On, Refused as RefusedF}
+use Rattle.members.specs.Flow.{On, Refused as RefusedF}
 use Rattle.laws.proofs.Filtering.{under_at}
 use Rattle.laws.proofs.Keeping.{bind_none, bind_more}
 use Rattle.storage.specs.declared.given.Canon.{Canon}

@@ -1,4 +1,5 @@
 -- expand_bounds, its fallback and canonicalize_inner: what each way through `gathered`, `expand`, `fallback` and `inner` comes to. Assumes nothing.
+use Rattle.std.specs.Prelude.{Option, Some, None}
 use mathlib.Core.Path.{◌≡◌, refl, sym, ap, ◌∙◌, subst}
 use mathlib.Core.Bool.{Bool, true, false, ◌||◌}
 use Prim.Native.Nat.{ℕ, suc, ◌+◌, ◌-◌, ◌≤◌, ◌<◌}
@@ -25,25 +26,23 @@ use Rattle.laws.proofs.Keeping.{Later, later_none, parted, gave, refused_not, Ke
 use Rattle.laws.proofs.Moving.{Moved, moved_later, moved_both, Firm, Goer, Any, any_stays, begin_known, distinct_known, goes_note, goes_each, goes_expansion}
 use Rattle.laws.proofs.Filtering.{under_front, under_back, filter_length}
 use Rattle.lang_ty.specs.declared.arena.Pass.{Pass}
-use Rattle.lang_ty.specs.declared.arena.Given.{Given}
-use Rattle.lang_ty.specs.declared.arena.Given.TheVariants.{Node as NodeG, Refused}
-use Rattle.lang_ty.specs.declared.arena.Found.{Found}
-use Rattle.lang_ty.specs.declared.arena.Found.TheVariants.{At, Nowhere}
+use Rattle.lang_ty.specs.Given.{Given}
+use Rattle.lang_ty.specs.Given.{Node as NodeG, Refused}
 use Rattle.lang_ty.specs.Nodes.{Stands, Answers as Stores}
-use Rattle.members.specs.declared.lists.Flow.{Flow}
-use Rattle.members.specs.declared.lists.Flow.TheVariants.{On, Refused as RefusedF}
+use Rattle.members.specs.Flow.{Flow}
+use Rattle.members.specs.Flow.{On, Refused as RefusedF}
 use Rattle.storage.specs.declared.given.Canon.{Canon}
 use Rattle.storage.specs.declared.notes.Begun.{Begun}
-use Rattle.storage.specs.declared.held.Own.TheVariants.{Variable, Bounds}
+use Rattle.storage.specs.Helds.{Variable, Bounds}
 use Rattle.storage.specs.Passes.{BoundsAt}
 use Rattle.storage.specs.Notes.{Notes, begun_of, NoneBegun, Begins}
 use Rattle.storage.specs.Entries.{NamedIs, NamedBound}
 use Rattle.storage.specs.Vars.{IsVariable, own_end, Expanded}
-use Rattle.storage.specs.declared.held.Own.{Own}
+use Rattle.storage.specs.Helds.{Own}
 use Rattle.storage.specs.Helds.{HeldList, Deduplicates, BeginsList, OwnBounds, concretes, own_rule}
 use Rattle.storage.proofs.HeldBounds.{bounds_short}
-use Rattle.composites.specs.declared.lists.Settled.{Settled}
-use Rattle.composites.specs.declared.lists.Settled.TheVariants.{Node as NodeS, Empty as EmptyS, Refused as RefusedS}
+use Rattle.composites.specs.Settled.{Settled}
+use Rattle.composites.specs.Settled.{Node as NodeS, Empty as EmptyS, Refused as RefusedS}
 use Rattle.composites.specs.Places.{Settles, bounds_end, Normalizes}
 use Rattle.lang_check.specs.Cycle.{Keyed, Poised, KeptBelow, Answers, AnswersHeld, AnswersGathered, visited, Visits, Each, Inner, Gathered, Expands, FallsBackTo, IsCut}
 use Rattle.lang_check.proofs.Answered.{goes_visited, knows_given, poised_roomy, visited_held}
@@ -184,7 +183,7 @@ module _ {table : List ℕ} {c : Canon} {w work : List ℕ} {free h : ℕ} {q : 
       }
 
   -- nothing is left
-  pub expands_empty : {g : Settled} {y : Found} {q1 : Pass} {w2 work2 : List ℕ} {r : Given} → Gathered table c w work free h q n pol w1 work1 g → g ≡ EmptyS y q1 → length work1 ≡ length work
+  pub expands_empty : {g : Settled} {y : Option ℕ} {q1 : Pass} {w2 work2 : List ℕ} {r : Given} → Gathered table c w work free h q n pol w1 work1 g → g ≡ EmptyS y q1 → length work1 ≡ length work
       → FallsBackTo table c w1 work1 free h q1 ch begun id pol w2 work2 r → Expands table c w work free h q ch begun n id pol w2 work2 r
   expands_empty ga0 e size fa =
       let ga = gathered_as e ga0 in
@@ -441,20 +440,20 @@ module _ {table : List ℕ} {c : Canon} {work : List ℕ} {h : ℕ} {p : runs.Pa
   bounds_room : h + length l + length u ≤ length work
   bounds_room = let fits = po.roomed.fits in let long = po.roomed.long in omega (arith, bounds_many)
 
-  named_found : {v : ℕ} {r : Found} → NamedBound table c v r → BoundsAt table v l u → NamedIs c.count t (l ++ u) r
+  named_found : {v : ℕ} {r : Option ℕ} → NamedBound table c v r → BoundsAt table v l u → NamedIs c.count t (l ++ u) r
   named_found nb ba = nb.is po.knows.reads ba (under_front c.count l u bounds_under) (under_back c.count l u bounds_under)
 
 -- what stands nowhere else
-pub nowhere : (f : Found) → ((b : ℕ) → f ≡ At b → ⊥) → f ≡ Nowhere
-nowhere (At b) h = absurd (h b refl)
-nowhere Nowhere h = refl
+pub nowhere : (f : Option ℕ) → ((b : ℕ) → f ≡ Some b → ⊥) → f ≡ None
+nowhere (Some b) h = absurd (h b refl)
+nowhere None h = refl
 
 module _ {table : List ℕ} {c : Canon} {w work : List ℕ} {free h : ℕ} {q : Pass} {id v : ℕ} {pol : Polarity} {r : Given} where
   -- a Named bound
-  pub inner_named : {f : Found} {b : ℕ} {w' work' : List ℕ} → NamedBound table c v f → f ≡ At b → Visits table c w work free h q b pol w' work' r
+  pub inner_named : {f : Option ℕ} {b : ℕ} {w' work' : List ℕ} → NamedBound table c v f → f ≡ Some b → Visits table c w work free h q b pol w' work' r
       → Inner table c w work free h q id v pol w' work' r
   inner_named nb0 d vi =
-      let nb = subst (λ (z : Found). NamedBound table c v z) d nb0 in
+      let nb = subst (λ (z : Option ℕ). NamedBound table c v z) d nb0 in
       record {
         is = λ {p} {t} {st} {l} {u} e ba po on lt.
             let f = named_found e po lt nb ba in
@@ -465,10 +464,10 @@ module _ {table : List ℕ} {c : Canon} {w work : List ℕ} {free h : ℕ} {q : 
 
   module _ {work1 work2 : List ℕ} where
     -- the variable itself
-    pub inner_variable : {f : Found} {o : Own} {w' : List ℕ} → NamedBound table c v f → f ≡ Nowhere → Notes table c work id pol work1 → OwnBounds table c work1 h id v pol work2 o → o ≡ Variable
+    pub inner_variable : {f : Option ℕ} {o : Own} {w' : List ℕ} → NamedBound table c v f → f ≡ None → Notes table c work id pol work1 → OwnBounds table c work1 h id v pol work2 o → o ≡ Variable
         → IsVariable table c w q id w' r → Inner table c w work free h q id v pol w' work2 r
     inner_variable nb0 d nt ow0 d' va =
-        let nb = subst (λ (z : Found). NamedBound table c v z) d nb0 in
+        let nb = subst (λ (z : Option ℕ). NamedBound table c v z) d nb0 in
         let ow = subst (λ (z : Own). OwnBounds table c work1 h id v pol work2 z) d' ow0 in
         record {
           is = λ {p} {t} {st} {l} {u} e ba po on lt.
@@ -482,12 +481,12 @@ module _ {table : List ℕ} {c : Canon} {w work : List ℕ} {free h : ℕ} {q : 
         }
 
     -- its own bounds, expanded
-    pub inner_bounds : {f : Found} {o : Own} {n : ℕ} {kept : Bool} {none : Begun} {w1 work3 w2 : List ℕ} {g : Given} → NamedBound table c v f → f ≡ Nowhere
+    pub inner_bounds : {f : Option ℕ} {o : Own} {n : ℕ} {kept : Bool} {none : Begun} {w1 work3 w2 : List ℕ} {g : Given} → NamedBound table c v f → f ≡ None
         → Notes table c work id pol work1 → OwnBounds table c work1 h id v pol work2 o → o ≡ Bounds n kept → length work2 ≡ length work1 → NoneBegun none
         → Expands table c w work2 free h q 4 none n id pol w1 work3 g → Expanded table c w1 g id pol kept w2 r
         → Inner table c w work free h q id v pol w2 work3 r
     inner_bounds {n = n} {kept = kept} {none = none} {g = g} nb0 d nt ow0 d' size nn ex vars =
-        let nb = subst (λ (z : Found). NamedBound table c v z) d nb0 in
+        let nb = subst (λ (z : Option ℕ). NamedBound table c v z) d nb0 in
         let ow = subst (λ (z : Own). OwnBounds table c work1 h id v pol work2 z) d' ow0 in
         record {
           is = λ {p} {t} {st} {l} {u} e ba po on lt.
@@ -514,3 +513,16 @@ module _ {table : List ℕ} {c : Canon} {w work : List ℕ} {free h : ℕ} {q : 
               (λ k x s4 i j. own_refused p id pol kept k x s4 (ap (own_end p id pol kept) (sym i) ∙ j)) a
               (vars.is o po.knows.reps (stores_of g (λ x s3 i. (went x s3 i).fact) a)));
         }
+
+-- an expansion that was refused is no node beside which its variable stays
+own_off : (p : runs.Pass) (id : ℕ) (pol : Polarity) (kept : Bool) (k : ℕ) → own_end p id pol kept (no k) ≡ no k
+own_off p id pol true k = refl
+own_off p id pol false k = refl
+
+pub expanded_refused : {table : List ℕ} {c : Canon} {w : List ℕ} {id k : ℕ} {pol : Polarity} {kept : Bool} → Expanded table c w (Refused k) id pol kept w (Refused k)
+expanded_refused {id = id} {k = k} {pol} {kept} = record { is = λ {p} o reps a. record { is = ap (own_end p id pol kept) a.is ∙ own_off p id pol kept k } }
+
+-- answers that were refused are settled so
+pub normalizes_off : {table : List ℕ} {c : Canon} {w work : List ℕ} {h n k : ℕ} {pol : Polarity} → Normalizes table c w work h n (RefusedF k) pol w work (RefusedS k)
+normalizes_off {pol = pol} =
+    record { kept = λ j lt. refl; is = λ {p} o given v roomy. record { is = λ rest. ap (λ (o : Out (List ℕ)). bind o (λ xs. bounds_end p pol xs rest)) v.is } }

@@ -1,4 +1,5 @@
 -- Ty::Inter: two members visited, tried, and tried again. Assumes nothing.
+use Rattle.std.specs.Prelude.{Option}
 use mathlib.Core.Path.{◌≡◌, refl, sym, ap, ◌∙◌, subst}
 use mathlib.Core.Bool.{Bool, true, false, ◌||◌}
 use Prim.Native.Nat.{ℕ, ◌<◌}
@@ -14,18 +15,19 @@ use Rattle.rules.specs.declared.Polarity.{Polarity}
 use Rattle.laws.proofs.Keeping.{Keeps, parted, keeps_give, keeps_ask, keeps_bind, keeps_if, keeps_store, keeps_simplify, keeps_concrete, keeps_flattened, keeps_inter_rest}
 use Rattle.laws.proofs.Moving.{moved_under}
 use Rattle.lang_ty.specs.declared.arena.Pass.{Pass}
-use Rattle.lang_ty.specs.declared.arena.Given.{Given}
-use Rattle.lang_ty.specs.declared.arena.Given.TheVariants.{Node as NodeG, Refused}
-use Rattle.lang_ty.specs.declared.arena.Found.{Found}
+use Rattle.lang_ty.specs.Given.{Given}
+use Rattle.lang_ty.specs.Given.{Node as NodeG, Refused}
 use Rattle.lang_ty.specs.Nodes.{Stands, Stored as StoredRow}
 use Rattle.lang_ty.proofs.Stores.{stored_bottom}
 use Rattle.storage.specs.declared.given.Canon.{Canon}
 use Rattle.storage.specs.Entries.{Turned}
 use Rattle.storage.specs.Helds.{HoldsTwo}
-use Rattle.members.specs.declared.lists.Flow.{Flow}
+use Rattle.members.specs.Flow.{Flow}
+use Rattle.members.specs.Flow.{Refused as RefusedF}
+use Rattle.composites.specs.declared.binary.Try.{Try}
 use Rattle.composites.specs.declared.binary.Try.TheVariants.{First, Again as AgainT}
-use Rattle.composites.specs.declared.binary.Tried.{Tried}
-use Rattle.composites.specs.declared.binary.Tried.TheVariants.{Node as NodeT, Contradiction as ContradictionT, Refused as RefusedT}
+use Rattle.composites.specs.Tried.{Tried}
+use Rattle.composites.specs.Tried.{Node as NodeT, Contradiction as ContradictionT, Refused as RefusedT}
 use Rattle.composites.specs.Places.{Tries, inter_first, inter_second, TriesInter}
 use Rattle.lang_check.specs.Cycle.{Poised, visited, Each, Inters, after_first_try, Either, Again, Retried, Retries}
 use Rattle.lang_check.proofs.Answered.{goes_visited, knows_given, poised_roomy, Ready, visited_held, held_base, answers_base, answers_after}
@@ -111,7 +113,7 @@ module _ {table : List ℕ} {c : Canon} {w work : List ℕ} {free h : ℕ} {q : 
             la lb));
       }
 
-module _ {table : List ℕ} {c : Canon} {w work : List ℕ} {free h : ℕ} {q : Pass} {y : Found} {a b n : ℕ} {pa pb : Polarity} {w2 work1 work2 : List ℕ} {f : Flow} {pol : Polarity}
+module _ {table : List ℕ} {c : Canon} {w work : List ℕ} {free h : ℕ} {q : Pass} {y : Option ℕ} {a b n : ℕ} {pa pb : Polarity} {w2 work1 work2 : List ℕ} {f : Flow} {pol : Polarity}
     {w3 work3 : List ℕ} {tr : Tried} {w4 : List ℕ} {r : Given} where
   pub retries : HoldsTwo work h a b work1 n → Turned table c a pol pa → Turned table c b pol pb → Each table c w work1 free h q n pa pb w2 work2 f
       → TriesInter table c w2 work2 h f (AgainT y) pol w3 work3 tr → Retried w3 tr w4 r → length work1 ≡ length work → length work2 ≡ length work1 → length work3 ≡ length work2
@@ -160,7 +162,7 @@ module _ {table : List ℕ} {c : Canon} {w work : List ℕ} {free h : ℕ} {tr :
   again_refused e =
       record { is = λ {p} {t} f tries po la lb. record { is = (subst (λ (z : Tried). Tries f w z) e tries).is (after_first_try p t (visit free p t) a b pol) } }
 
-  module _ {y : Found} {q : Pass} {either : Bool} (e : tr ≡ ContradictionT y q) (ei : Either table c a b either) where
+  module _ {y : Option ℕ} {q : Pass} {either : Bool} (e : tr ≡ ContradictionT y q) (ei : Either table c a b either) where
     -- a contradiction without a variable
     pub again_bottom : {w' : List ℕ} {r : Given} → either ≡ false → StoredRow (9 ∷ []) 0 w q w' r → Again table c w work free h tr a b pol w' work r
     again_bottom d leaf =
@@ -189,3 +191,13 @@ module _ {table : List ℕ} {c : Canon} {w work : List ℕ} {free h : ℕ} {tr :
               ∙ ap (λ (z : Bool). if z (λ _. inter_retry p t (visit free p t) a b pol g.list) (λ _. store Bottom) g.after) variable))
               (re.is g.list g.first g.below poised g.stands la lb);
         }
+
+-- answers that were refused are tried so
+pub tries_off : {table : List ℕ} {c : Canon} {w work : List ℕ} {h k : ℕ} {t : Try} {pol : Polarity} → TriesInter table c w work h (RefusedF k) t pol w work (RefusedT k)
+tries_off {pol = pol} =
+    record {
+      kept = λ j lt. refl;
+      once = λ {p} o given v roomy e. record { is = λ rest. ap (λ (o : Out (List ℕ)). bind o (λ xs. inter_first p pol xs rest)) v.is };
+      twice = λ {p} o ys y given v roomy e lead under.
+          record { is = λ rest. ap (λ (o : Out (List ℕ)). bind o (λ xs. inter_second p pol ys xs rest)) v.is };
+    }

@@ -1,4 +1,5 @@
 -- What is made of an entry once its children have answers. Assumes nothing.
+use Rattle.std.specs.Prelude.{Option}
 use mathlib.Core.Path.{◌≡◌, refl, sym, ap, ap₂, ◌∙◌, subst}
 use Prim.Native.Nat.{ℕ, suc, ◌+◌, ◌<◌}
 use native.Mathlib.Omega.{arith}
@@ -14,9 +15,8 @@ use Rattle.laws.specs.Sound.{OrderlySet}
 use Rattle.rules.specs.declared.Polarity.{Polarity}
 use Rattle.laws.proofs.Loading.{members_alike, sound_members}
 use Rattle.lang_ty.specs.declared.arena.Pass.{Pass}
-use Rattle.lang_ty.specs.declared.arena.Given.{Given}
-use Rattle.lang_ty.specs.declared.arena.Given.TheVariants.{Node, Refused}
-use Rattle.lang_ty.specs.declared.arena.Found.{Found}
+use Rattle.lang_ty.specs.Given.{Given}
+use Rattle.lang_ty.specs.Given.{Node, Refused}
 use Rattle.lang_ty.specs.Nodes.{Answers as Stores, Stored as StoredRow}
 use Rattle.lang_ty.proofs.Stores.{answers_of, stored_bottom, stored_primitive, stored_list, stored_lambda, stored_named}
 use Rattle.storage.specs.declared.given.Canon.{Canon}
@@ -27,12 +27,12 @@ use Rattle.storage.specs.Sets.{StoresSet}
 use Rattle.storage.specs.Entries.{ReadAs}
 use Rattle.storage.specs.Helds.{held_kids}
 use Rattle.storage.specs.Vars.{IsVariable}
-use Rattle.members.specs.declared.lists.Flow.{Flow}
-use Rattle.members.specs.declared.lists.Flow.TheVariants.{On, Refused as RefusedF}
+use Rattle.members.specs.Flow.{Flow}
+use Rattle.members.specs.Flow.{On, Refused as RefusedF}
 use Rattle.negation.specs.Negations.{members_up_to, Negatable, AnswersGiven, NegatesOutput}
 use Rattle.laws.proofs.Filtering.{under_at}
-use Rattle.composites.specs.declared.binary.Tried.{Tried}
-use Rattle.composites.specs.declared.binary.Tried.TheVariants.{Node as NodeT, Contradiction as ContradictionT, Refused as RefusedT}
+use Rattle.composites.specs.Tried.{Tried}
+use Rattle.composites.specs.Tried.{Node as NodeT, Contradiction as ContradictionT, Refused as RefusedT}
 use Rattle.composites.specs.Places.{Held, Visited, UnionOf, Tries}
 use Rattle.lang_check.specs.Cycle.{made, Broad, StoredBy, Made, Retried}
 use Rattle.lang_check.specs.Making.{Single, MadeOfOne}
@@ -219,7 +219,7 @@ module _ {w : List ℕ} {t : Tried} where
             record { is = record { after = g.after; is = g.is (λ ys. store Bottom); stands = g.stands; below = g.below } };
       }
 
-  pub retried_bottom : {y : Found} {q : Pass} {w' : List ℕ} {r : Given} → t ≡ ContradictionT y q → StoredRow (9 ∷ []) 0 w q w' r → Retried w t w' r
+  pub retried_bottom : {y : Option ℕ} {q : Pass} {w' : List ℕ} {r : Given} → t ≡ ContradictionT y q → StoredRow (9 ∷ []) 0 w q w' r → Retried w t w' r
   retried_bottom {y} {q} e st =
       record { is = λ f tries. let g = (tries_as (ContradictionT y q) e tries).is in answers_of (g.is (λ ys. store Bottom)) (stored_bottom g.stands st) }
 

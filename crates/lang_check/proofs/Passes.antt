@@ -28,9 +28,9 @@ use Rattle.laws.proofs.Storing.{Rooted, rooted_none}
 use Rattle.laws.proofs.Loading.{load_fresh}
 use Rattle.laws.proofs.Moving.{Moved, visit_moves, steady_fresh}
 use Rattle.lang_ty.specs.declared.arena.Pass.{Pass}
-use Rattle.lang_ty.specs.declared.arena.Given.{Given}
+use Rattle.lang_ty.specs.Given.{Given}
 use Rattle.lang_ty.specs.declared.arena.Shown.{Shown}
-use Rattle.lang_ty.specs.declared.arena.Given.TheVariants.{Node as NodeG, Refused}
+use Rattle.lang_ty.specs.Given.{Node as NodeG, Refused}
 use Rattle.lang_ty.specs.Nodes.{Stands, Fresh, shown_of, Answers as Stores}
 use Rattle.lang_ty.proofs.Stores.{stands_none}
 use Rattle.storage.proofs.Alike.{reads_alike}
@@ -38,8 +38,8 @@ use Rattle.storage.specs.declared.given.Canon.{Canon}
 use Rattle.storage.specs.Passes.{rep_of, Reps, Knows}
 use Rattle.storage.specs.declared.notes.PolarityBits.{PolarityBits}
 use Rattle.storage.specs.Notes.{IsBoth}
-use Rattle.lang_check.specs.declared.collect.RootAnswer.{RootAnswer}
-use Rattle.lang_check.specs.declared.collect.RootAnswer.TheVariants.{Shown as ShownR, Refused as RefusedR}
+use Rattle.lang_check.specs.RootAnswer.{RootAnswer}
+use Rattle.lang_check.specs.RootAnswer.{Shown as ShownR, Refused as RefusedR}
 use Rattle.lang_check.specs.Cycle.{Keyed, Poised, Answers, Visits}
 use Rattle.lang_check.specs.Roots.{NoneCounted, LentTo, OnePass, BitsEnd, AnyBoth, PreservesIf, Detects, Or, RootIs, first_of, FirstShown, SecondShown, NonePreserved, Canonicalizes}
 use Rattle.lang_check.proofs.Poised.{answers_out}

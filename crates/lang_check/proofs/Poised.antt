@@ -15,8 +15,8 @@ use Rattle.laws.proofs.Storing.{Rooted}
 use Rattle.laws.proofs.Keeping.{Later, later_steady}
 use Rattle.laws.proofs.Moving.{Moved, Firm, Goer, Any, firm_any, mover_goes, visit_moves}
 use Rattle.lang_ty.specs.declared.arena.Pass.{Pass}
-use Rattle.lang_ty.specs.declared.arena.Given.TheVariants.{Node as NodeG, Refused}
-use Rattle.lang_ty.specs.declared.arena.Given.{Given}
+use Rattle.lang_ty.specs.Given.{Node as NodeG, Refused}
+use Rattle.lang_ty.specs.Given.{Given}
 use Rattle.lang_ty.specs.Nodes.{Stands, Answers as Stores}
 use Rattle.storage.specs.declared.given.Canon.{Canon}
 use Rattle.lang_check.specs.Cycle.{Keyed, Poised, KeptBelow, Answers}

@@ -15,8 +15,8 @@ use Rattle.laws.specs.Sound.{OrderlySet}
 use Rattle.rules.specs.declared.Polarity.{Polarity}
 use Rattle.laws.proofs.Keeping.{Keeps, parted, keeps_refuse, keeps_bind, keeps_store, keeps_variable, keeps_negate, keeps_flattened, keeps_concrete, keeps_union_normalized, keeps_settle, keeps_first_of}
 use Rattle.lang_ty.specs.declared.arena.Pass.{Pass}
-use Rattle.lang_ty.specs.declared.arena.Given.{Given}
-use Rattle.lang_ty.specs.declared.arena.Given.TheVariants.{Node as NodeG, Refused}
+use Rattle.lang_ty.specs.Given.{Given}
+use Rattle.lang_ty.specs.Given.{Node as NodeG, Refused}
 use Rattle.storage.specs.declared.given.Canon.{Canon}
 use Rattle.storage.specs.declared.entries.Entry.{Entry as Read}
 use Rattle.storage.specs.declared.entries.Entry.TheVariants.{Variable, Primitive as PrimitiveE, TyVar as TyVarE, List as ListE, Lambda as LambdaE}
@@ -26,7 +26,7 @@ use Rattle.storage.specs.Entries.{ReadAs, EntryRead}
 use Rattle.storage.specs.Helds.{held_kids, first_polarity, HoldsChildren, FirstPolarity}
 use Rattle.storage.proofs.HeldIds.{read_as}
 use Rattle.storage.proofs.SetNodes.{orderly_retyped}
-use Rattle.members.specs.declared.lists.Flow.{Flow}
+use Rattle.members.specs.Flow.{Flow}
 use Rattle.composites.specs.Places.{union_end}
 use Rattle.lang_check.specs.Cycle.{Poised, Answers, AnswersHeld, visited, made, StoredBy, Made, Rules, Children, Each, Inner, Inters}
 use Rattle.lang_check.proofs.Poised.{poised_firm, poised_mover, poised_entry, poised_under, poised_slice, keyed_later, keyed_cells, kept_both, answers_out}

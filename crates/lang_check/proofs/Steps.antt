@@ -16,8 +16,8 @@ use Rattle.rules.specs.Canonicalizer.{is_variable, is_both}
 use Rattle.rules.specs.Canonicalizer as runs
 use Rattle.rules.specs.declared.Polarity.{Polarity}
 use Rattle.lang_ty.specs.declared.arena.Pass.{Pass}
-use Rattle.lang_ty.specs.declared.arena.Given.{Given}
-use Rattle.lang_ty.specs.declared.arena.Given.TheVariants.{Node, Refused}
+use Rattle.lang_ty.specs.Given.{Given}
+use Rattle.lang_ty.specs.Given.{Node, Refused}
 use Rattle.storage.specs.declared.given.Canon.{Canon}
 use Rattle.storage.specs.declared.notes.Begun.{Begun}
 use Rattle.storage.specs.Notes.{begun_of, Began, IsBoth}

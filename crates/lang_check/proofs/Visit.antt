@@ -22,8 +22,8 @@ use Rattle.laws.proofs.Keeping.{keeps_variable}
 use Rattle.laws.proofs.Loading.{load_take}
 use Rattle.laws.proofs.Moving.{Firm, Any, any_stays, firm_any, goes_rule, named_keys}
 use Rattle.lang_ty.specs.declared.arena.Pass.{Pass}
-use Rattle.lang_ty.specs.declared.arena.Given.{Given}
-use Rattle.lang_ty.specs.declared.arena.Given.TheVariants.{Node as NodeG, Refused}
+use Rattle.lang_ty.specs.Given.{Given}
+use Rattle.lang_ty.specs.Given.{Node as NodeG, Refused}
 use Rattle.lang_ty.specs.Nodes.{Stands}
 use Rattle.lang_ty.proofs.Words.{arena_pass}
 use Rattle.storage.specs.declared.given.Canon.{Canon}

@@ -1,4 +1,5 @@
 -- The cycle of visit, rule and expansion: how the working slice stands for a state, and what each member of the cycle ensures.
+use Rattle.std.specs.Prelude.{Option}
 use Rattle.std.specs.Prelude.{◌≡◌, Bool, true, ◌||◌, ℕ, ◌+◌, ◌*◌, ◌≤◌, ◌<◌, List, [], ◌∷◌, length, set as set_at, eqb}
 use Rattle.cells.specs.Part.{if, cell}
 use Rattle.layout.specs.Layout.{bits_at, held_at, work_length}
@@ -13,9 +14,8 @@ use Rattle.rules.specs.Canonicalizer as runs
 use Rattle.laws.specs.Sound.{OrderlySet, Steady, Tabled, load}
 use Rattle.rules.specs.declared.Polarity.{Polarity}
 use Rattle.lang_ty.specs.declared.arena.Pass.{Pass}
-use Rattle.lang_ty.specs.declared.arena.Given.{Given}
-use Rattle.lang_ty.specs.declared.arena.Given.TheVariants.{Node, Refused}
-use Rattle.lang_ty.specs.declared.arena.Found.{Found}
+use Rattle.lang_ty.specs.Given.{Given}
+use Rattle.lang_ty.specs.Given.{Node, Refused}
 use Rattle.lang_ty.specs.Nodes.{Stands, Answers as Stores}
 use Rattle.storage.specs.declared.given.Canon.{Canon}
 use Rattle.storage.specs.declared.notes.Begun.{Begun}
@@ -26,11 +26,11 @@ use Rattle.storage.specs.Sets.{retyped}
 use Rattle.storage.specs.Entries.{ReadAs}
 use Rattle.storage.specs.Helds.{HeldList, Unseen, held_kids, first_polarity}
 use Rattle.negation.specs.Negations.{KeptBut}
-use Rattle.members.specs.declared.lists.Flow.{Flow}
-use Rattle.members.specs.declared.lists.Flow.TheVariants.{On, Refused as RefusedF}
-use Rattle.composites.specs.declared.lists.Settled.{Settled}
-use Rattle.composites.specs.declared.lists.Settled.TheVariants.{Node as NodeS, Empty as EmptyS, Refused as RefusedS}
-use Rattle.composites.specs.declared.binary.Tried.{Tried}
+use Rattle.members.specs.Flow.{Flow}
+use Rattle.members.specs.Flow.{On, Refused as RefusedF}
+use Rattle.composites.specs.Settled.{Settled}
+use Rattle.composites.specs.Settled.{Node as NodeS, Empty as EmptyS, Refused as RefusedS}
+use Rattle.composites.specs.Tried.{Tried}
 use Rattle.composites.specs.Places.{Visited, FirstIs, Tries, union_end}
 use Rattle.cells.specs.Placed.{Under}
 
@@ -234,7 +234,7 @@ pub record Again (table : List ℕ) (c : Canon) (w work : List ℕ) (free h : �
       → Answers (f (after_first_try p t (visit free p t) a b pol)) p.count w' work work' h r
 
 -- the retry; ys are all members of the first try
-pub record Retries (table : List ℕ) (c : Canon) (w work : List ℕ) (free h : ℕ) (q : Pass) (y : Found) (a b : ℕ) (pol : Polarity) (w' work' : List ℕ)
+pub record Retries (table : List ℕ) (c : Canon) (w work : List ℕ) (free h : ℕ) (q : Pass) (y : Option ℕ) (a b : ℕ) (pol : Polarity) (w' work' : List ℕ)
     (r : Given) : Type 0 where
   pub is : {p : runs.Pass} {t : Reader} {st : State} (ys : List ℕ) → FirstIs ys y → Under (length st.nodes) ys
       → Poised table c work h 2 p t st → Stands st w q → a < c.count → b < c.count

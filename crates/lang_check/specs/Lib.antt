@@ -1,3 +1,4 @@
+pub mod RootAnswer
 pub mod Cycle
 pub mod Making
 pub mod Roots

@@ -6,13 +6,13 @@ use Rattle.rules.specs.Canonicalizer.{Reader}
 use Rattle.rules.specs.Canonicalizer as runs
 use Rattle.rules.specs.declared.Polarity.{Polarity}
 use Rattle.lang_ty.specs.declared.arena.Pass.{Pass}
-use Rattle.lang_ty.specs.declared.arena.Given.{Given}
+use Rattle.lang_ty.specs.Given.{Given}
 use Rattle.storage.specs.declared.given.Canon.{Canon}
 use Rattle.storage.specs.declared.entries.Entry.{Entry as Read}
 use Rattle.storage.specs.Passes.{Knows}
 use Rattle.storage.specs.Entries.{ReadAs}
 use Rattle.storage.specs.Helds.{held_kids}
-use Rattle.members.specs.declared.lists.Flow.TheVariants.{On}
+use Rattle.members.specs.Flow.{On}
 use Rattle.composites.specs.Places.{Visited}
 use Rattle.lang_check.specs.Cycle.{made, Broad, StoredBy}
 

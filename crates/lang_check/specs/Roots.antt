@@ -10,14 +10,14 @@ use Rattle.rules.specs.Canonicalizer as runs
 use Rattle.laws.specs.Sound.{Tabled}
 use Rattle.rules.specs.declared.Polarity.{Polarity}
 use Rattle.lang_ty.specs.declared.arena.Pass.{Pass}
-use Rattle.lang_ty.specs.declared.arena.Given.{Given}
-use Rattle.lang_ty.specs.declared.arena.Given.TheVariants.{Node as NodeG, Refused}
+use Rattle.lang_ty.specs.Given.{Given}
+use Rattle.lang_ty.specs.Given.{Node as NodeG, Refused}
 use Rattle.lang_ty.specs.declared.arena.Shown.{Shown}
 use Rattle.lang_ty.specs.Nodes.{Arena, shown_of, Answers as Stores}
 use Rattle.storage.specs.declared.given.Canon.{Canon}
 use Rattle.storage.specs.Passes.{Knows}
-use Rattle.lang_check.specs.declared.collect.RootAnswer.{RootAnswer}
-use Rattle.lang_check.specs.declared.collect.RootAnswer.TheVariants.{Shown as ShownR, Refused as RefusedR}
+use Rattle.lang_check.specs.RootAnswer.{RootAnswer}
+use Rattle.lang_check.specs.RootAnswer.{Shown as ShownR, Refused as RefusedR}
 use Rattle.lang_check.specs.Cycle.{Answers}
 
 pub record NoneCounted (q : Pass) : Type 0 where

@@ -1,34 +1,32 @@
 // The Canonicalizer of collect.rs.
-ghost use Rattle.lang_check.specs.Cycle.{Visits, Rules, Children, Each, Inner, Gathered, Expands, FallsBackTo, Inters, Again, Retries, Either, Caches, Side, IsCut};
-ghost use Rattle.lang_check.specs.Roots.{NoneCounted, OnePass, BothAt, BitsEnd, AnyBoth, PreservesIf, Detects, Or, FirstShown, SecondShown, Canonicalizes};
+ghost use Rattle.std.specs.Prelude.{Ok};
+ghost use Rattle.lang_ty.specs.Given.{given};
+ghost use Rattle.members.specs.Flow.{flow};
+ghost use Rattle.composites.specs.Settled.{settled};
+ghost use Rattle.composites.specs.Tried.{tried};
+ghost use Rattle.lang_check.specs.RootAnswer.{root_answer};
+ghost use Rattle.lang_check.specs.Cycle.{Visits, Rules, Children, Each, Inner, Gathered, Expands, FallsBackTo, Inters, Again, Retries, Either, Side, IsCut};
+ghost use Rattle.lang_check.specs.Roots.{NoneCounted, OnePass, BothAt, BitsEnd, AnyBoth, PreservesIf, Detects, FirstShown, SecondShown, Canonicalizes};
 
 use crate::made::{made, retried};
 use cells::{add, at, get, place, put, set};
-use composites::binary::{Tried, Try};
-use composites::lists::Settled;
+use composites::binary::{Outcome, Try};
+use composites::lists::Ending;
 use composites::{binary, bounds};
 use lang_ty::arena;
-use lang_ty::arena::{Given, OutputTy, Pass, Shown};
+use lang_ty::arena::{OutputTy, Pass, Shown};
 use layout::{TableSlice, WorkSlice};
-use members::lists::Flow;
-use rules::Polarity;
+use rules::{Polarity, Refusal};
 use storage::entries::Entry;
 use storage::given::Canon;
-use storage::held::Own;
 use storage::notes::{Begun, PolarityBits};
 use storage::{entries, held, notes, vars};
 
 // Whether a fallback begins no list: there is none, or after the bail the chain began it before.
-fn is_cut(n: u32, q: Pass, begun: Begun, pol: Polarity) -> bool
-    ensures { IsCut n q begun pol result }
+fn is_cut(n: u32, q: &Pass, begun: Begun, pol: Polarity) -> bool
+    ensures { IsCut n q.now begun pol result }
 {
-    if n == 0 {
-        return true;
-    }
-    if !q.bailed {
-        return false;
-    }
-    notes::began(begun, pol)
+    n == 0 || q.bailed && notes::began(begun, pol)
 }
 
 // The polarity in which the i-th of several ids is visited.
@@ -42,23 +40,7 @@ fn side(i: u32, first: Polarity, pol: Polarity) -> Polarity
 fn either_variable(table: &[u32], c: Canon, a: u32, b: u32) -> bool
     ensures { Either table.now c a b result }
 {
-    if entries::is_variable(table, c, a) {
-        return true;
-    }
-    entries::is_variable(table, c, b)
-}
-
-// The answer, put at the key s where it is a node.
-fn cached(work: &mut [u32], s: u32, g: Given) -> Given
-    ensures { Caches work.old s g work.new result }
-{
-    match g {
-        Given::Node(x, q) => {
-            set(work, s, add(x, 2));
-            Given::Node(x, q)
-        }
-        Given::Refused(k) => Given::Refused(k),
-    }
+    entries::is_variable(table, c, a) || entries::is_variable(table, c, b)
 }
 
 // canonicalize_child: the node of id in a place of that polarity, with as many free keys as free says; held from h on is free.
@@ -70,18 +52,19 @@ pub fn visit(
     work: &mut [u32],
     free: u32,
     h: u32,
-    p: Pass,
+    q: &mut Pass,
     id: u32,
     pol: Polarity,
-) -> Given
-    ensures { Visits table.now c arena.old work.old free h p id pol arena.new work.new result }
+) -> Result<u32, Refusal>
+    ensures { Visits table.now c arena.old work.old free h q.old id pol arena.new work.new (given result q.new) }
 {
-    if p.bailed {
-        return vars::variable(table, c, arena, p, id);
+    if q.bailed {
+        return vars::variable(table, c, arena, q, id);
     }
-    let q = notes::count_one(p);
+    notes::count_one(q);
     if notes::exceeds(c, q) {
-        return vars::variable(table, c, arena, notes::bail(q), id);
+        notes::bail(q);
+        return vars::variable(table, c, arena, q, id);
     }
     let s = notes::slot(id, pol);
     let k = at(work, s);
@@ -89,14 +72,15 @@ pub fn visit(
         return vars::variable(table, c, arena, q, id);
     }
     if 1 < k {
-        return Given::Node(k - 2, q);
+        return Ok(k - 2);
     }
     if free == 0 {
-        return Given::Refused(6);
+        return Err(Refusal::Keys);
     }
     set(work, s, 1);
-    let g = rule(table, c, arena, work, free - 1, h, q, id, pol);
-    cached(work, s, g)
+    let x = rule(table, c, arena, work, free - 1, h, q, id, pol)?;
+    set(work, s, add(x, 2));
+    Ok(x)
 }
 
 // canonicalize_inner for a variable, canonicalize_concrete for the others.
@@ -108,19 +92,19 @@ fn rule(
     work: &mut [u32],
     free: u32,
     h: u32,
-    q: Pass,
+    q: &mut Pass,
     id: u32,
     pol: Polarity,
-) -> Given
-    ensures { Rules table.now c arena.old work.old free h q id pol arena.new work.new result }
+) -> Result<u32, Refusal>
+    ensures { Rules table.now c arena.old work.old free h q.old id pol arena.new work.new (given result q.new) }
 {
     let e = entries::entry_at(table, c, id);
     match e {
         Entry::Variable(v) => inner(table, c, arena, work, free, h, q, id, v, pol),
         Entry::Inter(a, b) => inter(table, c, arena, work, free, h, q, a, b, pol),
         _ => {
-            let f = children(table, c, arena, work, free, h, q, e, pol);
-            made(table, c, arena, work, h, f, e, pol)
+            children(table, c, arena, work, free, h, q, e, pol)?;
+            made(table, c, arena, work, h, q, e, pol)
         }
     }
 }
@@ -134,11 +118,11 @@ fn children(
     work: &mut [u32],
     free: u32,
     h: u32,
-    q: Pass,
+    q: &mut Pass,
     e: Entry,
     pol: Polarity,
-) -> Flow
-    ensures { Children table.now c arena.old work.old free h q e pol arena.new work.new result }
+) -> Result<(), Refusal>
+    ensures { Children table.now c arena.old work.old free h q.old e pol arena.new work.new (flow result q.new) }
 {
     let n = held::hold_children(table, work, h, e);
     each(
@@ -164,37 +148,36 @@ fn inner(
     work: &mut [u32],
     free: u32,
     h: u32,
-    q: Pass,
+    q: &mut Pass,
     id: u32,
     v: u32,
     pol: Polarity,
-) -> Given
-    ensures { Inner table.now c arena.old work.old free h q id v pol arena.new work.new result }
+) -> Result<u32, Refusal>
+    ensures { Inner table.now c arena.old work.old free h q.old id v pol arena.new work.new (given result q.new) }
 {
-    if let arena::Found::At(b) = entries::named_bound(table, c, v) {
+    if let Some(b) = entries::named_bound(table, c, v) {
         return visit(table, c, arena, work, free, h, q, b, pol);
     }
     notes::note(table, c, work, id, pol);
-    match held::own_bounds(table, c, work, h, id, v, pol) {
-        Own::Variable => vars::variable(table, c, arena, q, id),
-        Own::Bounds(n, kept) => {
-            let g = expand(
-                table,
-                c,
-                arena,
-                work,
-                free,
-                h,
-                q,
-                Canon::CHAIN,
-                notes::none_begun(),
-                n,
-                id,
-                pol,
-            );
-            vars::expanded(table, c, arena, g, id, pol, kept)
-        }
-    }
+    let Some(own) = held::own_bounds(table, c, work, h, id, v, pol) else {
+        return vars::variable(table, c, arena, q, id);
+    };
+    let begun = notes::none_begun();
+    let x = expand(
+        table,
+        c,
+        arena,
+        work,
+        free,
+        h,
+        q,
+        Canon::CHAIN,
+        begun,
+        own.count,
+        id,
+        pol,
+    )?;
+    vars::expanded(table, c, arena, q, x, id, pol, own.kept)
 }
 
 // expand_bounds of the n bounds held from h on, but for its fallback.
@@ -206,15 +189,15 @@ fn gathered(
     work: &mut [u32],
     free: u32,
     h: u32,
-    q: Pass,
+    q: &mut Pass,
     n: u32,
     pol: Polarity,
-) -> Settled
-    ensures { Gathered table.now c arena.old work.old free h q n pol arena.new work.new result }
+) -> Result<Ending, Refusal>
+    ensures { Gathered table.now c arena.old work.old free h q.old n pol arena.new work.new (settled result q.new) }
 {
     let m = held::deduplicated(work, h, n);
-    let f = each(table, c, arena, work, free, h, q, m, pol, pol);
-    bounds::normalize(table, c, arena, work, h, m, f, pol)
+    each(table, c, arena, work, free, h, q, m, pol, pol)?;
+    bounds::normalize(table, c, arena, work, h, q, m, pol)
 }
 
 // expand_bounds of the n bounds held from h on, for the variable id; chain is how many fallbacks may still begin.
@@ -226,21 +209,19 @@ fn expand(
     work: &mut [u32],
     free: u32,
     h: u32,
-    q: Pass,
+    q: &mut Pass,
     chain: u32,
     begun: Begun,
     n: u32,
     id: u32,
     pol: Polarity,
-) -> Given
-    ensures { Expands table.now c arena.old work.old free h q chain begun n id pol arena.new work.new result }
+) -> Result<u32, Refusal>
+    ensures { Expands table.now c arena.old work.old free h q.old chain begun n id pol arena.new work.new (given result q.new) }
 {
-    match gathered(table, c, arena, work, free, h, q, n, pol) {
-        Settled::Node(x, r) => Given::Node(x, r),
-        Settled::Empty(_, r) => {
-            fallback(table, c, arena, work, free, h, r, chain, begun, id, pol)
-        }
-        Settled::Refused(k) => Given::Refused(k),
+    let e = gathered(table, c, arena, work, free, h, q, n, pol)?;
+    match e {
+        Ending::Node(x) => Ok(x),
+        Ending::Empty(_) => { fallback(table, c, arena, work, free, h, q, chain, begun, id, pol) }
     }
 }
 
@@ -253,13 +234,13 @@ fn fallback(
     work: &mut [u32],
     free: u32,
     h: u32,
-    q: Pass,
+    q: &mut Pass,
     chain: u32,
     begun: Begun,
     id: u32,
     pol: Polarity,
-) -> Given
-    ensures { FallsBackTo table.now c arena.old work.old free h q chain begun id pol arena.new work.new result }
+) -> Result<u32, Refusal>
+    ensures { FallsBackTo table.now c arena.old work.old free h q.old chain begun id pol arena.new work.new (given result q.new) }
 {
     if chain == 0 {
         return vars::variable(table, c, arena, q, id);
@@ -294,18 +275,16 @@ fn each(
     work: &mut [u32],
     free: u32,
     h: u32,
-    p: Pass,
+    q: &mut Pass,
     n: u32,
     first: Polarity,
     pol: Polarity,
-) -> Flow
-    ensures { Each table.now c arena.old work.old free h p n first pol arena.new work.new result }
+) -> Result<(), Refusal>
+    ensures { Each table.now c arena.old work.old free h q.old n first pol arena.new work.new (flow result q.new) }
 {
-    let mut q = p;
-    let mut i = 0;
-    while i < n {
+    for i in 0..n {
         let b = get(work, place(h, i));
-        match visit(
+        let x = visit(
             table,
             c,
             arena,
@@ -315,18 +294,10 @@ fn each(
             q,
             b,
             side(i, first, pol),
-        ) {
-            Given::Node(x, r) => {
-                put(work, place(h, i), x);
-                q = r;
-                i += 1;
-            }
-            Given::Refused(k) => {
-                return Flow::Refused(k);
-            }
-        }
+        )?;
+        put(work, place(h, i), x);
     }
-    Flow::On(q)
+    Ok(())
 }
 
 // Ty::Inter
@@ -338,17 +309,17 @@ fn inter(
     work: &mut [u32],
     free: u32,
     h: u32,
-    q: Pass,
+    q: &mut Pass,
     a: u32,
     b: u32,
     pol: Polarity,
-) -> Given
-    ensures { Inters table.now c arena.old work.old free h q a b pol arena.new work.new result }
+) -> Result<u32, Refusal>
+    ensures { Inters table.now c arena.old work.old free h q.old a b pol arena.new work.new (given result q.new) }
 {
     let n = held::hold_two(work, h, a, b);
-    let f = each(table, c, arena, work, free, h, q, n, pol, pol);
-    let t = binary::inter_tried(table, c, arena, work, h, f, Try::First, pol);
-    again(table, c, arena, work, free, h, t, a, b, pol)
+    each(table, c, arena, work, free, h, q, n, pol, pol)?;
+    let t = binary::inter_tried(table, c, arena, work, h, q, Try::First, pol)?;
+    again(table, c, arena, work, free, h, q, t, a, b, pol)
 }
 
 // A contradiction with a variable among the members is tried again; without one it is Bottom.
@@ -360,22 +331,22 @@ fn again(
     work: &mut [u32],
     free: u32,
     h: u32,
-    t: Tried,
+    q: &mut Pass,
+    t: Outcome,
     a: u32,
     b: u32,
     pol: Polarity,
-) -> Given
-    ensures { Again table.now c arena.old work.old free h t a b pol arena.new work.new result }
+) -> Result<u32, Refusal>
+    ensures { Again table.now c arena.old work.old free h (tried (Ok t) q.old) a b pol arena.new work.new (given result q.new) }
 {
     match t {
-        Tried::Node(x, q) => Given::Node(x, q),
-        Tried::Contradiction(y, q) => {
+        Outcome::Node(x) => Ok(x),
+        Outcome::Contradiction(y) => {
             if !either_variable(table, c, a, b) {
-                return arena::store_leaf(arena, q, OutputTy::BOTTOM);
+                return arena::store_leaf(arena, q, OutputTy::Bottom);
             }
             retry(table, c, arena, work, free, h, q, y, a, b, pol)
         }
-        Tried::Refused(k) => Given::Refused(k),
     }
 }
 
@@ -388,26 +359,20 @@ fn retry(
     work: &mut [u32],
     free: u32,
     h: u32,
-    q: Pass,
-    y: arena::Found,
+    q: &mut Pass,
+    y: Option<u32>,
     a: u32,
     b: u32,
     pol: Polarity,
-) -> Given
-    ensures { Retries table.now c arena.old work.old free h q y a b pol arena.new work.new result }
+) -> Result<u32, Refusal>
+    ensures { Retries table.now c arena.old work.old free h q.old y a b pol arena.new work.new (given result q.new) }
 {
     let n = held::hold_two(work, h, a, b);
     let pa = entries::turned(table, c, a, pol);
     let pb = entries::turned(table, c, b, pol);
-    let f = each(table, c, arena, work, free, h, q, n, pa, pb);
-    let t = binary::inter_tried(table, c, arena, work, h, f, Try::Again(y), pol);
-    retried(arena, t)
-}
-
-#[derive(Clone, Copy)]
-pub enum RootAnswer {
-    Shown(Shown),
-    Refused(u32),
+    each(table, c, arena, work, free, h, q, n, pa, pb)?;
+    let t = binary::inter_tried(table, c, arena, work, h, q, Try::Again(y), pol)?;
+    retried(arena, q, t)
 }
 
 // A pass from nothing: its own arena, keys and bits, and no id marked as seen.
@@ -416,11 +381,13 @@ fn one_pass(
     c: Canon,
     arena: &mut [u32],
     work: &mut [u32],
+    q: &mut Pass,
     id: u32,
     pol: Polarity,
-) -> Given
-    ensures { OnePass table.now c arena.old work.old id pol arena.new work.new result }
+) -> Result<u32, Refusal>
+    ensures { OnePass table.now c arena.old work.old id pol arena.new work.new (given result q.new) }
 {
+    *q = none_counted();
     cells::clear(work, 0, add(c.count, c.count));
     cells::clear(work, WorkSlice::BITS, c.count);
     cells::clear(work, WorkSlice::SEEN, c.count);
@@ -432,7 +399,7 @@ fn one_pass(
         work,
         Canon::KEYS,
         WorkSlice::HELD,
-        none_counted(),
+        q,
         id,
         pol,
     )
@@ -466,11 +433,9 @@ fn any_both(work: &[u32], count: u32) -> bool
 {
     let e = bits_end(work, count);
     let mut any = false;
-    let mut i = WorkSlice::BITS as usize;
-    while i < e {
+    for i in WorkSlice::BITS as usize..e {
         let b = PolarityBits { bits: work[i] };
-        any = or(any, b.is_both());
-        i += 1;
+        any |= b.is_both();
     }
     any
 }
@@ -491,55 +456,41 @@ fn detected_cooccurring(table: &mut [u32], work: &[u32], count: u32) -> bool
     if !any_both(work, count) {
         return false;
     }
-    let mut i = 0;
-    while i < count {
+    for i in 0..count {
         preserve_if_both(table, work, i);
-        i += 1;
     }
     true
 }
 
 // The answer of the first pass.
-fn first_shown(g: Given) -> RootAnswer
-    ensures { FirstShown g result }
+fn first_shown(g: Result<u32, Refusal>, q: &Pass) -> Result<Shown, Refusal>
+    ensures { FirstShown (given g q.now) (root_answer result) }
 {
     match g {
-        Given::Node(x, q) => {
-            let s = Shown {
-                passes: 1,
-                ops: q.ops,
-                sorted: q.sorted,
-                bailed: q.bailed,
-                node: x,
-            };
-            RootAnswer::Shown(s)
-        }
-        Given::Refused(k) => RootAnswer::Refused(k),
+        Ok(x) => Ok(Shown {
+            passes: 1,
+            ops: q.ops,
+            sorted: q.sorted,
+            bailed: q.bailed,
+            node: x,
+        }),
+        Err(k) => Err(k),
     }
 }
 
-fn or(a: bool, b: bool) -> bool
-    ensures { Or a b result }
-{
-    if a { true } else { b }
-}
-
 // The answer of the second pass, with what the first one counted and marked.
-fn second_shown(g: Given, first: Shown) -> RootAnswer
-    ensures { SecondShown g first.ops first.sorted first.bailed result }
+fn second_shown(g: Result<u32, Refusal>, q: &Pass, first: Shown) -> Result<Shown, Refusal>
+    ensures { SecondShown (given g q.now) first.ops first.sorted first.bailed (root_answer result) }
 {
     match g {
-        Given::Node(x, q) => {
-            let s = Shown {
-                passes: 2,
-                ops: add(first.ops, q.ops),
-                sorted: or(first.sorted, q.sorted),
-                bailed: or(first.bailed, q.bailed),
-                node: x,
-            };
-            RootAnswer::Shown(s)
-        }
-        Given::Refused(k) => RootAnswer::Refused(k),
+        Ok(x) => Ok(Shown {
+            passes: 2,
+            ops: add(first.ops, q.ops),
+            sorted: first.sorted || q.sorted,
+            bailed: first.bailed || q.bailed,
+            node: x,
+        }),
+        Err(k) => Err(k),
     }
 }
 
@@ -551,26 +502,22 @@ pub fn canonicalize(
     work: &mut [u32],
     id: u32,
     pol: Polarity,
-) -> RootAnswer
-    ensures { Canonicalizes table.old c arena.old work.old id pol table.new arena.new work.new result }
+) -> Result<Shown, Refusal>
+    ensures { Canonicalizes table.old c arena.old work.old id pol table.new arena.new work.new (root_answer result) }
 {
-    let first = first_shown(one_pass(table, c, arena, work, id, pol));
-    let RootAnswer::Shown(s) = first else {
+    let mut q = none_counted();
+    let g = one_pass(table, c, arena, work, &mut q, id, pol);
+    let first = first_shown(g, &q);
+    let Ok(s) = first else {
         return first;
     };
     if !detected_cooccurring(table, work, c.count) {
         return first;
     }
-    let d = Canon {
-        count: c.count,
-        base: c.base,
-        budget: c.budget,
-        spent: s.ops,
-        functor: c.functor,
-    };
-    let h = one_pass(table, d, arena, work, id, pol);
+    let d = Canon { spent: s.ops, ..c };
+    let h = one_pass(table, d, arena, work, &mut q, id, pol);
     cells::clear(table, TableSlice::PRESERVED, c.count);
-    second_shown(h, s)
+    second_shown(h, &q, s)
 }
 
 fn none_counted() -> Pass

@@ -1,15 +1,18 @@
 // What is made of an entry once its children have answers.
+ghost use Rattle.std.specs.Prelude.{Ok};
+ghost use Rattle.lang_ty.specs.Given.{given};
+ghost use Rattle.members.specs.Flow.{On};
+ghost use Rattle.composites.specs.Tried.{tried};
 ghost use Rattle.lang_check.specs.Cycle.{Made, Retried};
 ghost use Rattle.lang_check.specs.Making.{MadeOfOne};
 
 use cells::{at, get, place};
 use composites::binary;
-use composites::binary::Tried;
+use composites::binary::Outcome;
 use lang_ty::arena;
-use lang_ty::arena::{Given, OutputTy, Pass};
-use members::lists::Flow;
+use lang_ty::arena::{OutputTy, Pass};
 use negation::negate_output_ty;
-use rules::Polarity;
+use rules::{Polarity, Refusal};
 use storage::entries::Entry;
 use storage::given::Canon;
 use storage::sets::store_set;
@@ -22,19 +25,19 @@ fn made_of_one(
     arena: &mut [u32],
     work: &mut [u32],
     h: u32,
-    q: Pass,
+    q: &mut Pass,
     e: Entry,
-) -> Given
-    ensures { MadeOfOne table.now c arena.old work.old h q e arena.new work.new result }
+) -> Result<u32, Refusal>
+    ensures { MadeOfOne table.now c arena.old work.old h q.old e arena.new work.new (given result q.new) }
 {
     let x = at(work, h);
     match e {
-        Entry::Primitive(p) => arena::store_one(arena, q, OutputTy::PRIMITIVE, p),
+        Entry::Primitive(p) => arena::store_one(arena, q, OutputTy::Primitive, p),
         Entry::TyVar(v) => variable(table, c, arena, q, v),
-        Entry::List(_) => arena::store_one(arena, q, OutputTy::LIST, x),
+        Entry::List(_) => arena::store_one(arena, q, OutputTy::List, x),
         Entry::Neg(_) => negate_output_ty(arena, work, h, q, x),
-        Entry::Named(name, _) => arena::store_two(arena, q, OutputTy::NAMED, name, x),
-        _ => Given::Refused(5),
+        Entry::Named(name, _) => arena::store_two(arena, q, OutputTy::Named, name, x),
+        _ => Err(Refusal::Frozen),
     }
 }
 
@@ -45,34 +48,30 @@ pub fn made(
     arena: &mut [u32],
     work: &mut [u32],
     h: u32,
-    f: Flow,
+    q: &mut Pass,
     e: Entry,
     pol: Polarity,
-) -> Given
-    ensures { Made table.now c arena.old work.old h f e pol arena.new work.new result }
+) -> Result<u32, Refusal>
+    ensures { Made table.now c arena.old work.old h (On q.old) e pol arena.new work.new (given result q.new) }
 {
-    match f {
-        Flow::On(q) => match e {
-            Entry::Lambda(_, _) => {
-                let x = at(work, h);
-                let y = get(work, place(h, 1));
-                arena::store_two(arena, q, OutputTy::LAMBDA, x, y)
-            }
-            Entry::AttrSet(a) => store_set(table, a, arena, work, h, q),
-            Entry::Union(_, _) => binary::union_of(table, c, arena, work, h, q, pol),
-            _ => made_of_one(table, c, arena, work, h, q, e),
-        },
-        Flow::Refused(k) => Given::Refused(k),
+    match e {
+        Entry::Lambda(_, _) => {
+            let x = at(work, h);
+            let y = get(work, place(h, 1));
+            arena::store_two(arena, q, OutputTy::Lambda, x, y)
+        }
+        Entry::AttrSet(a) => store_set(table, a, arena, work, h, q),
+        Entry::Union(_, _) => binary::union_of(table, c, arena, work, h, q, pol),
+        _ => made_of_one(table, c, arena, work, h, q, e),
     }
 }
 
 // A retry that contradicts itself too is Bottom.
-pub fn retried(arena: &mut [u32], t: Tried) -> Given
-    ensures { Retried arena.old t arena.new result }
+pub fn retried(arena: &mut [u32], q: &mut Pass, t: Outcome) -> Result<u32, Refusal>
+    ensures { Retried arena.old (tried (Ok t) q.old) arena.new (given result q.new) }
 {
     match t {
-        Tried::Node(x, q) => Given::Node(x, q),
-        Tried::Contradiction(_, q) => arena::store_leaf(arena, q, OutputTy::BOTTOM),
-        Tried::Refused(k) => Given::Refused(k),
+        Outcome::Node(x) => Ok(x),
+        Outcome::Contradiction(_) => arena::store_leaf(arena, q, OutputTy::Bottom),
     }
 }

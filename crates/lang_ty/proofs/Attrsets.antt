@@ -2,7 +2,7 @@
 use mathlib.Core.Path.{◌≡◌, refl, sym, ap, ap₂, ◌∙◌, subst}
 use mathlib.Core.Bool.{Bool, true, false, not, ◌||◌}
 use Prim.Native.Nat.{ℕ, zero, suc, ◌+◌, ◌-◌, ◌*◌, ◌≤◌, ◌<◌}
-use mathlib.Core.Logic.{inl, inr, ⊎_elim}
+use mathlib.Core.Logic.{⊎_elim}
 use native.Mathlib.Omega.{arith}
 use native.Mathlib.Nat.{eq-or-lt_of_le, not-suc-le-zero}
 use native.Mathlib.Numerals.{add-one}
@@ -10,7 +10,7 @@ use mathlib.Core.List.{List, [], ◌∷◌}
 use lib.ListN.{length, get_or, drop, length-map}
 use lib.Seq.{drop-cons}
 use lib.Dec.{eqb}
-use borrow.Author.Tests.{eqb-true, eqb-false, not-true, not-false}
+use borrow.Author.Tests.{eq-eqb, eqb-true, eqb-false, not-true, not-false}
 use Rattle.cells.specs.Part.{cell, part}
 use Rattle.cells.specs.Sum.{Sum}
 use Rattle.cells.proofs.Holding.{holds_head, holds_tail, holds_place}
@@ -190,8 +190,9 @@ module _ {w : List ℕ} {ks : Keys} {step k : ℕ} where
   passing_done c g = record { is = c.is; first = λ h le some. absurd (omega arith) }
 
 module _ {w : List ℕ} {ks : Keys} {k : ℕ} where
-  pub starts_none : ks.left ≡ 0 → Starts w ks k false
+  pub starts_none : ks.left ≡ 0 → Starts w ks k (not (eqb ks.left 0))
   starts_none e =
+      subst (λ (b : Bool). Starts w ks k (not b)) (sym (eq-eqb ks.left 0 e))
       record {
         is = λ step h first. sym (ap (λ (n : ℕ). contains (apart w step ks.at n) k) e) ∙ h.same k (omega arith);
         here = λ g. true_false (sym g);
@@ -273,12 +274,6 @@ pub record Along (w : List ℕ) (t u : Attr) (i : ℕ) (walk : Walk) : Type 0 wh
 pub record Covering (w : List ℕ) (a b n i : ℕ) (walk : Walk) : Type 0 where
   pub few : i ≤ n
   pub is : {t u : Attr} → SetAt w a t → SetAt w b u → Orderly t → Orderly u → Along w t u i walk
-
-pub least_first : {a b : ℕ} → a < b → Least a b a
-least_first lt = record { first = omega arith; second = omega arith; one = inl refl }
-
-pub least_second : {a b : ℕ} → b ≤ a → Least a b b
-least_second le = record { first = omega arith; second = omega arith; one = inr refl }
 
 -- `alike_fields` at field r
 pub record Comparing (w : List ℕ) (a b n i r : ℕ) : Type 0 where

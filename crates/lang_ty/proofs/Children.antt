@@ -1,5 +1,6 @@
 -- A node's children, return by return. Assumes nothing.
 use mathlib.Core.Path.{◌≡◌, refl, sym, ap, ◌∙◌}
+use mathlib.Core.Logic.{◌⊎◌, ⊎_elim}
 use Prim.Native.Nat.{ℕ, ◌+◌, ◌≤◌, ◌<◌}
 use native.Mathlib.Omega.{arith}
 use mathlib.Core.List.{List}
@@ -9,49 +10,53 @@ use Rattle.cells.specs.Sum.{Sum}
 use Rattle.rules.specs.Table.{Field, Attr, attr_kids, field_types, dyn_ids}
 use Rattle.rules.specs.Types.{Node, encode, children, node_at}
 use Rattle.laws.proofs.Rows.{attr_words_length, few_dyns, node_by, node_of, by_kind, members_only, children_behind}
+use Rattle.lang_ty.specs.declared.arena.OutputTy.{OutputTy}
+use Rattle.lang_ty.specs.declared.arena.OutputTy.TheVariants as kinds
 use Rattle.lang_ty.specs.declared.arena.Pass.{Pass}
-use Rattle.lang_ty.specs.Nodes.{Arena, Word, Kind, Count}
+use Rattle.lang_ty.specs.Nodes.{code, Arena, Word, Kind, Count}
 use Rattle.lang_ty.specs.Sets.{SetAt, Fields, FieldType, Dyns, DynType}
 use Rattle.lang_ty.specs.Shapes.{SetPlace}
 use Rattle.lang_ty.specs.Orders.{FirstChild, Children, ChildAt}
+use Rattle.lang_ty.proofs.Codes.{other}
 use Rattle.lang_ty.proofs.Words.{row_few, word_of}
 use Rattle.lang_ty.proofs.Shapes.{set_of, set_at_lem}
 
 pub kids_length : (t : Attr) → length (attr_kids t) ≡ length t.fields + length (dyn_ids t.dyn)
 kids_length t = omega (arith, length-append (field_types t.fields) (dyn_ids t.dyn), length-map t.fields (λ (f : Field). f.type))
 
-module _ {w : List ℕ} {x k : ℕ} (a : Kind w x k) where
-  -- of a kind that settles their number
-  fixed : {r : ℕ} (j : ℕ) → k ≡ j → ((row : List ℕ) → r ≡ length (children (node_by j row))) → Children w x r
-  fixed j e f =
-      record { is = λ {q} {ns} h lt. f (encode (node_at ns x)) ∙ ap (λ (m : Node). length (children m)) (node_of (node_at ns x) j (sym (a.is h lt) ∙ e)) }
+-- of a kind that settles their number
+fixed : {w : List ℕ} {x k r : ℕ} → Kind w x k → (j : ℕ) → k ≡ j → ((row : List ℕ) → r ≡ length (children (node_by j row))) → Children w x r
+fixed {x = x} a j e f =
+    record { is = λ {q} {ns} h lt. f (encode (node_at ns x)) ∙ ap (λ (m : Node). length (children m)) (node_of (node_at ns x) j (sym (a.is h lt) ∙ e)) }
 
-  pub children_lambda : k ≡ 3 → Children w x 2
-  children_lambda e = fixed 3 e (λ row. refl)
+module _ {w : List ℕ} {x : ℕ} {k : OutputTy} (a : Kind w x (code k)) where
+  pub children_lambda : k ≡ kinds.Lambda → Children w x 2
+  children_lambda e = fixed a 3 (ap code e) (λ row. refl)
 
-  pub children_list : k ≡ 2 → Children w x 1
-  children_list e = fixed 2 e (λ row. refl)
+  pub children_one : (k ≡ kinds.List) ⊎ ((k ≡ kinds.Named) ⊎ (k ≡ kinds.Neg)) → Children w x 1
+  children_one e =
+      ⊎_elim (λ z. fixed a 2 (ap code z) (λ row. refl))
+      (λ f. ⊎_elim (λ z. fixed a 7 (ap code z) (λ row. refl)) (λ z. fixed a 8 (ap code z) (λ row. refl)) f) e
 
-  pub children_named : k ≡ 7 → Children w x 1
-  children_named e = fixed 7 e (λ row. refl)
-
-  pub children_neg : k ≡ 8 → Children w x 1
-  children_neg e = fixed 8 e (λ row. refl)
-
-  pub children_members : {r : ℕ} → (k ≡ 4 → ⊥) → (k ≡ 3 → ⊥) → (k ≡ 2 → ⊥) → (k ≡ 7 → ⊥) → (k ≡ 8 → ⊥) → Count w x r → Children w x r
+  pub children_members : {r : ℕ} → (k ≡ kinds.AttrSet → ⊥) → (k ≡ kinds.Lambda → ⊥) → (k ≡ kinds.List → ⊥) → (k ≡ kinds.Named → ⊥) → (k ≡ kinds.Neg → ⊥)
+      → Count w x r → Children w x r
   children_members b c d e f g =
       record {
         is = λ {q} {ns} h lt.
             let z = a.is h lt in
-            g.is h lt ∙ sym (ap length (members_only (node_at ns x) (λ y. b (z ∙ y)) (λ y. c (z ∙ y)) (λ y. d (z ∙ y)) (λ y. e (z ∙ y)) (λ y. f (z ∙ y))));
+            g.is h lt
+            ∙ sym
+            (ap length
+            (members_only (node_at ns x) (λ y. other kinds.AttrSet b (z ∙ y)) (λ y. other kinds.Lambda c (z ∙ y)) (λ y. other kinds.List d (z ∙ y))
+            (λ y. other kinds.Named e (z ∙ y)) (λ y. other kinds.Neg f (z ∙ y))));
       }
 
-  pub child_word : {i f j r : ℕ} → (k ≡ 4 → ⊥) → FirstChild k f → Sum i f j → Word w x j r → ChildAt w x i r
+  pub child_word : {i f j r : ℕ} → (k ≡ kinds.AttrSet → ⊥) → FirstChild (code k) f → Sum i f j → Word w x j r → ChildAt w x i r
   child_word {i} {f} {j} b first sum c =
       record {
         is = λ {q} {ns} h lt few.
             let n = node_at ns x in
-            let e = first.is n (sym (a.is h lt)) b in
+            let e = first.is n (sym (a.is h lt)) (other kinds.AttrSet b) in
             let l = length-drop f (encode n) in
             let m = ap length e in
             let small = first.small in
@@ -61,12 +66,12 @@ module _ {w : List ℕ} {x k : ℕ} (a : Kind w x k) where
       }
 
   -- of a set
-  module _ (e : k ≡ 4) {p : ℕ} (place : SetPlace w x p) where
+  module _ (e : k ≡ kinds.AttrSet) {p : ℕ} (place : SetPlace w x p) where
     here : {q : Pass} {ns : List Node} (h : Arena w q ns) (lt : x < length ns) → SetAt w p (set_of ns x)
-    here h lt = set_at_lem h lt (sym (a.is h lt) ∙ e) place
+    here h lt = set_at_lem h lt (sym (a.is h lt) ∙ ap code e) place
 
     kids : {q : Pass} {ns : List Node} (h : Arena w q ns) (lt : x < length ns) → attr_kids (set_of ns x) ≡ children (node_at ns x)
-    kids {q} {ns} h lt = ap children (node_of (node_at ns x) 4 (sym (a.is h lt) ∙ e))
+    kids {q} {ns} h lt = ap children (node_of (node_at ns x) 4 (sym (a.is h lt) ∙ ap code e))
 
     pub children_set : {n d r : ℕ} → Fields w p n → Dyns w p d → Sum n d r → Children w x r
     children_set f g sum =
@@ -111,23 +116,17 @@ module _ {w : List ℕ} {x k : ℕ} (a : Kind w x k) where
               ∙ ap (λ (l : List ℕ). get_or l i 0) (kids h lt);
         }
 
-module _ {k : ℕ} where
-  first : (j : ℕ) → k ≡ j → ((row : List ℕ) → drop 1 (encode (node_by j row)) ≡ children (node_by j row)) → FirstChild k 1
-  first j e f =
-      record { is = λ n g b. by_kind n (λ (m : Node). drop 1 (encode m) ≡ children m) j (g ∙ e) (f (encode n)); small = omega arith }
+first : {k : ℕ} (j : ℕ) → k ≡ j → ((row : List ℕ) → drop 1 (encode (node_by j row)) ≡ children (node_by j row)) → FirstChild k 1
+first j e f =
+    record { is = λ n g b. by_kind n (λ (m : Node). drop 1 (encode m) ≡ children m) j (g ∙ e) (f (encode n)); small = omega arith }
 
-  pub first_list : k ≡ 2 → FirstChild k 1
-  first_list e = first 2 e (λ row. refl)
+module _ {k : OutputTy} where
+  pub first_one : (k ≡ kinds.List) ⊎ ((k ≡ kinds.Lambda) ⊎ (k ≡ kinds.Neg)) → FirstChild (code k) 1
+  first_one e = ⊎_elim (λ z. first 2 (ap code z) (λ row. refl)) (λ f. ⊎_elim (λ z. first 3 (ap code z) (λ row. refl)) (λ z. first 8 (ap code z) (λ row. refl)) f) e
 
-  pub first_lambda : k ≡ 3 → FirstChild k 1
-  first_lambda e = first 3 e (λ row. refl)
-
-  pub first_neg : k ≡ 8 → FirstChild k 1
-  first_neg e = first 8 e (λ row. refl)
-
-  pub first_other : (k ≡ 2 → ⊥) → (k ≡ 3 → ⊥) → (k ≡ 8 → ⊥) → FirstChild k 2
+  pub first_other : (k ≡ kinds.List → ⊥) → (k ≡ kinds.Lambda → ⊥) → (k ≡ kinds.Neg → ⊥) → FirstChild (code k) 2
   first_other a b c =
       record {
-        is = λ n g d. children_behind n (λ z. a (sym g ∙ z)) (λ z. b (sym g ∙ z)) (λ z. c (sym g ∙ z)) (λ z. d (sym g ∙ z));
+        is = λ n g d. children_behind n (λ z. other kinds.List a (sym g ∙ z)) (λ z. other kinds.Lambda b (sym g ∙ z)) (λ z. other kinds.Neg c (sym g ∙ z)) (λ z. d (sym g ∙ z));
         small = omega arith;
       }

@@ -15,15 +15,15 @@ use Rattle.laws.proofs.Ordering.{numbers_less, numbers_equal, numbers_greater, o
 use Rattle.lang_ty.specs.declared.arena.Pass.{Pass}
 use Rattle.lang_ty.specs.declared.arc_ty.Item.{Item}
 use Rattle.lang_ty.specs.declared.arc_ty.Item.TheVariants.{End, Num, Child}
-use Rattle.lang_ty.specs.declared.arc_ty.Order.{Order}
-use Rattle.lang_ty.specs.declared.arc_ty.Order.TheVariants.{Less, Equal, Greater}
+use Rattle.std.specs.declared.cmp.Ordering.{Ordering}
+use Rattle.std.specs.declared.cmp.Ordering.TheVariants.{Less, Equal, Greater}
 use Rattle.lang_ty.specs.Nodes.{Arena, Kind}
 use Rattle.lang_ty.specs.Sets.{Least}
 use Rattle.lang_ty.specs.Orders.{item_of, order_of, Numbers, Items, ItemAt, Plainly, ComparedAt, Compared}
 
 -- two items, the first no child
 module _ {a b : Item} where
-  plainly : {x y : Item} {r : Order} → a ≡ x → b ≡ y → ((o : ℕ → ℕ → rules-order.Order) → order_of r ≡ compare_item o (item_of x) (item_of y)) → Plainly a b r
+  plainly : {x y : Item} {r : Ordering} → a ≡ x → b ≡ y → ((o : ℕ → ℕ → rules-order.Order) → order_of r ≡ compare_item o (item_of x) (item_of y)) → Plainly a b r
   plainly e f g = record { is = λ o h. g o ∙ sym (ap₂ (λ (x y : Item). compare_item o (item_of x) (item_of y)) e f) }
 
   pub end_end : a ≡ End → b ≡ End → Plainly a b Equal
@@ -38,7 +38,7 @@ module _ {a b : Item} where
   pub num_end : {x : ℕ} → a ≡ Num x → b ≡ End → Plainly a b Greater
   num_end e f = plainly e f (λ o. refl)
 
-  pub num_num : {x y : ℕ} {r : Order} → a ≡ Num x → b ≡ Num y → Numbers x y r → Plainly a b r
+  pub num_num : {x y : ℕ} {r : Ordering} → a ≡ Num x → b ≡ Num y → Numbers x y r → Plainly a b r
   num_num e f g = plainly e f (λ o. g.is)
 
   pub num_child : {x y : ℕ} → a ≡ Num x → b ≡ Child y → Plainly a b Less
@@ -49,7 +49,7 @@ module _ {a b : Item} where
 
 -- item i of two nodes
 module _ {w : List ℕ} {a b i : ℕ} {x y : Item} (first : ItemAt w a i x) (second : ItemAt w b i y) where
-  by_items : {p q : Item} {r : Order} → x ≡ p → y ≡ q
+  by_items : {p q : Item} {r : Ordering} → x ≡ p → y ≡ q
       → ((o : ℕ → ℕ → rules-order.Order) → order_of r ≡ compare_item o (item_of p) (item_of q)) → ComparedAt w a b i r
   by_items e f g =
       record {
@@ -58,10 +58,10 @@ module _ {w : List ℕ} {a b i : ℕ} {x y : Item} (first : ItemAt w a i x) (sec
             ∙ ap₂ (compare_item (order (length ns) ns)) (sym (ap item_of e) ∙ first.is h la ia) (sym (ap item_of f) ∙ second.is h lb ib);
       }
 
-  pub at_end_lem : {r : Order} → x ≡ End → Plainly x y r → ComparedAt w a b i r
+  pub at_end_lem : {r : Ordering} → x ≡ End → Plainly x y r → ComparedAt w a b i r
   at_end_lem e g = by_items refl refl (λ o. g.is o (λ k f. let z : ◌≡◌ {A = ℕ} 0 1 = cc in omega arith))
 
-  pub at_num : {k : ℕ} {r : Order} → x ≡ Num k → Plainly x y r → ComparedAt w a b i r
+  pub at_num : {k : ℕ} {r : Ordering} → x ≡ Num k → Plainly x y r → ComparedAt w a b i r
   at_num e g = by_items refl refl (λ o. g.is o (λ j f. let z : ◌≡◌ {A = ℕ} 0 1 = cc in omega arith))
 
   pub at_child_end : {k : ℕ} → x ≡ Child k → y ≡ End → ComparedAt w a b i Greater
@@ -80,7 +80,7 @@ module _ {w : List ℕ} {a b i : ℕ} {x y : Item} (first : ItemAt w a i x) (sec
     second_below {q} {ns} h lb ib =
         subst (UnderItem b) (sym (second.is h lb ib) ∙ ap item_of f) (under_item b (contents (node_at ns b)) i (under_contents b (node_at ns b) (h.below b lb)) ib)
 
-    children_by : {q : Pass} {ns : List Node} (r : Order) → Arena w q ns → a < length ns → b < length ns → i < length (contents (node_at ns a)) → i < length (contents (node_at ns b))
+    children_by : {q : Pass} {ns : List Node} (r : Ordering) → Arena w q ns → a < length ns → b < length ns → i < length (contents (node_at ns a)) → i < length (contents (node_at ns b))
         → order_of r ≡ order (length ns) ns k l → order_of r ≡ compare_item (order (length ns) ns) (get_or (contents (node_at ns a)) i end) (get_or (contents (node_at ns b)) i end)
     children_by {q} {ns} r h la lb ia ib g =
         g ∙ ap₂ (compare_item (order (length ns) ns)) (sym (ap item_of e) ∙ first.is h la ia) (sym (ap item_of f) ∙ second.is h lb ib)
@@ -95,7 +95,7 @@ module _ {w : List ℕ} {a b i : ℕ} {x y : Item} (first : ItemAt w a i x) (sec
     pub at_never : a ≤ k → ComparedAt w a b i Equal
     at_never g = record { is = λ h la lb ia ib. let z = first_below h la ia in absurd (omega arith) }
 
-    pub at_deeper : {r : Order} → Compared w k l r → ComparedAt w a b i r
+    pub at_deeper : {r : Ordering} → Compared w k l r → ComparedAt w a b i r
     at_deeper {r} g =
         record {
           is = λ {q} {ns} h la lb ia ib.
@@ -105,7 +105,7 @@ module _ {w : List ℕ} {a b i : ℕ} {x y : Item} (first : ItemAt w a i x) (sec
         }
 
 -- a difference decides
-decided : (r : Order) (f : Unit {0} → rules-order.Order) → (r ≡ Equal → ⊥) → order_of r ≡ then_by (order_of r) f
+decided : (r : Ordering) (f : Unit {0} → rules-order.Order) → (r ≡ Equal → ⊥) → order_of r ≡ then_by (order_of r) f
 decided Less f h = refl
 decided Equal f h = absurd (h refl)
 decided Greater f h = refl
@@ -118,14 +118,14 @@ module _ {w : List ℕ} {a b j k : ℕ} (first : Kind w a j) (second : Kind w b 
       order_items ns (record { is = h.below }) a b la lb
       ∙ ap₂ (λ (x y : ℕ). then_by (compare_numbers x y) (λ _. compare_items (order (length ns) ns) (contents (node_at ns a)) (contents (node_at ns b)))) (sym (first.is h la)) (sym (second.is h lb))
 
-  unequal : (r : Order) → (j ≡ k → ⊥) → Numbers j k r → r ≡ Equal → ⊥
+  unequal : (r : Ordering) → (j ≡ k → ⊥) → Numbers j k r → r ≡ Equal → ⊥
   unequal r h g e =
       ⊎_elim
       (λ (z : k - j ≡ 0). let y = sym (ap order_of e) ∙ g.is ∙ numbers_greater j k (omega arith) in let x : ◌≡◌ {A = ℕ} 0 1 = cc in omega arith)
       (λ (z : 0 < k - j). let y = sym (ap order_of e) ∙ g.is ∙ numbers_less j k (omega arith) in let x : ◌≡◌ {A = ℕ} 0 1 = cc in omega arith)
       (eq-zero-or-pos (k - j))
 
-  pub kinds_decide : {r : Order} → (j ≡ k → ⊥) → Numbers j k r → Compared w a b r
+  pub kinds_decide : {r : Ordering} → (j ≡ k → ⊥) → Numbers j k r → Compared w a b r
   kinds_decide {r} h g =
       record {
         is = λ {q} {ns} arena la lb.
@@ -178,7 +178,7 @@ module _ {w : List ℕ} {a b l : ℕ} where
   ordered_start = record { few = omega arith; is = λ h la lb. refl }
 
   module _ {n m i : ℕ} (first : Items w a n) (second : Items w b m) (least : Least n m l) (c : Ordered w a b l i) where
-    turn : {q : Pass} {ns : List Node} (r : Order) → i < l → ComparedAt w a b i r → Arena w q ns → a < length ns → b < length ns
+    turn : {q : Pass} {ns : List Node} (r : Ordering) → i < l → ComparedAt w a b i r → Arena w q ns → a < length ns → b < length ns
         → then_by (order_of r) (λ _. compare_items (order (length ns) ns) (drop (suc i) (contents (node_at ns a))) (drop (suc i) (contents (node_at ns b))))
         ≡ compare_items (order (length ns) ns) (contents (node_at ns a)) (contents (node_at ns b))
     turn {q} {ns} r lt g h la lb =
@@ -193,7 +193,7 @@ module _ {w : List ℕ} {a b l : ℕ} where
         ∙ sym (ap₂ (compare_items o) (drop-cons xs i end ia) (drop-cons ys i end ib))
         ∙ c.is h la lb
 
-    pub ordered_more : {r : Order} → i < l → ComparedAt w a b i r → r ≡ Equal → Ordered w a b l (i + 1)
+    pub ordered_more : {r : Ordering} → i < l → ComparedAt w a b i r → r ≡ Equal → Ordered w a b l (i + 1)
     ordered_more {r} lt g e =
         record {
           few = omega arith;
@@ -202,13 +202,13 @@ module _ {w : List ℕ} {a b l : ℕ} where
               let xs = contents (node_at ns a) in
               let ys = contents (node_at ns b) in
               ap (λ (k : ℕ). compare_items o (drop k xs) (drop k ys)) (add-one i)
-              ∙ sym (ap (λ (z : Order). then_by (order_of z) (λ _. compare_items o (drop (suc i) xs) (drop (suc i) ys))) e)
+              ∙ sym (ap (λ (z : Ordering). then_by (order_of z) (λ _. compare_items o (drop (suc i) xs) (drop (suc i) ys))) e)
               ∙ turn r lt g h la lb;
         }
 
     module _ {j k : ℕ} (one : Kind w a j) (two : Kind w b k) (alike : j ≡ k) where
-      settled : {r : Order} → i < l → ComparedAt w a b i r → (r ≡ Equal → ⊥) → Compared w a b r
-      settled {r} lt g e =
+      pub ordered_decided : {r : Ordering} → i < l → ComparedAt w a b i r → (r ≡ Equal → ⊥) → Compared w a b r
+      ordered_decided {r} lt g e =
           record {
             is = λ {q} {ns} h la lb.
                 decided r (λ _. compare_items (order (length ns) ns) (drop (suc i) (contents (node_at ns a))) (drop (suc i) (contents (node_at ns b)))) e
@@ -216,13 +216,7 @@ module _ {w : List ℕ} {a b l : ℕ} where
                 ∙ sym (by_contents one two alike h la lb);
           }
 
-      pub ordered_less : {r : Order} → i < l → ComparedAt w a b i r → r ≡ Less → Compared w a b Less
-      ordered_less lt g e = settled lt (subst (λ (x : Order). ComparedAt w a b i x) e g) (λ f. let z : ◌≡◌ {A = ℕ} 0 1 = cc in omega arith)
-
-      pub ordered_greater : {r : Order} → i < l → ComparedAt w a b i r → r ≡ Greater → Compared w a b Greater
-      ordered_greater lt g e = settled lt (subst (λ (x : Order). ComparedAt w a b i x) e g) (λ f. let z : ◌≡◌ {A = ℕ} 0 1 = cc in omega arith)
-
-      pub ordered_done : {r : Order} → l ≤ i → Numbers n m r → Compared w a b r
+      pub ordered_done : {r : Ordering} → l ≤ i → Numbers n m r → Compared w a b r
       ordered_done le g =
           let few = c.few in
           let z : l ≡ i = omega arith in

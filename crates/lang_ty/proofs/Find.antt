@@ -1,10 +1,13 @@
 -- The search for a node's row along its bucket, turn by turn. Assumes nothing.
+use Rattle.std.specs.Prelude.{Some, None}
 use mathlib.Core.Path.{◌≡◌, refl, sym, ap, ap₂, ◌∙◌}
 use mathlib.Core.Bool.{Bool, true, false}
 use Prim.Native.Nat.{ℕ, zero, suc, ◌+◌, ◌-◌, ◌≤◌, ◌<◌}
 use native.Mathlib.Omega.{arith}
 use mathlib.Core.List.{List}
 use lib.ListN.{length}
+use lib.Dec.{eqb}
+use borrow.Author.Tests.{ne_eqb}
 use Rattle.cells.specs.Part.{cell, part, if, eq_list}
 use Rattle.cells.specs.Sum.{Sum}
 use Rattle.cells.proofs.Choices.{not_so}
@@ -15,7 +18,6 @@ use Rattle.laws.specs.Indexed.{bucket_at, row_at, newest, seek, seek_node}
 use Rattle.laws.proofs.Indexing.{newest_low, newest_is, seek_newest, seek_turn}
 use Rattle.laws.proofs.Storing.{eq_list_true}
 use Rattle.lang_ty.specs.declared.arena.Pass.{Pass}
-use Rattle.lang_ty.specs.declared.arena.Found.TheVariants.{At, Nowhere}
 use Rattle.lang_ty.specs.Nodes.{Same, Offered, RowIs, Hit, Sought}
 use Rattle.lang_ty.proofs.Words.{row_few}
 use mathlib.Core.Option.{Option, some}
@@ -52,12 +54,12 @@ module _ {w : List ℕ} {i top len a p e l : ℕ} (from : a ≡ cell w i) (next 
       let f = ap (cell w) k in
       (sum.is (omega (arith, row_few o.arena i lt, o.short)), omega (arith, o.arena.ends i lt))
 
-  pub row_other : (e ≡ l → ⊥) → RowIs w i top len false
+  pub row_other : (e ≡ l → ⊥) → RowIs w i top len (eqb e l)
   row_other h =
       record {
         is = λ {q} {ns} {n} o lt.
             let z = row_size o lt in
-            sym (eq_list_longer (encode n) (encode (node_at ns i)) (λ y. h (omega (arith, z.0, z.1, o.size))));
+            ne_eqb e l h ∙ sym (eq_list_longer (encode n) (encode (node_at ns i)) (λ y. h (omega (arith, z.0, z.1, o.size))));
       }
 
   pub row_same : {r : Bool} → e ≡ l → Same w top a len r → RowIs w i top len r
@@ -74,12 +76,12 @@ module _ {w : List ℕ} {i top len a p e l : ℕ} (from : a ≡ cell w i) (next 
 
 -- `hit`: rows of different hashes are different
 module _ {w : List ℕ} {x h top len p g : ℕ} (at : p ≡ hashes_at + x) (is : g ≡ cell w p) where
-  pub hit_other : (g ≡ h → ⊥) → Hit w x h top len false
+  pub hit_other : (g ≡ h → ⊥) → Hit w x h top len (eqb g h)
   hit_other apart =
       record {
         is = λ {q} {ns} {n} o e lt.
             let told = is ∙ ap (cell w) at ∙ o.arena.index.hash_of x lt in
-            not_so (eq_list (encode n) (encode (node_at ns x)))
+            ne_eqb g h apart ∙ not_so (eq_list (encode n) (encode (node_at ns x)))
             (λ z. apart (told ∙ ap hash (sym (eq_list_true (encode n) (encode (node_at ns x)) z)) ∙ sym e));
       }
 
@@ -142,7 +144,7 @@ module _ {w : List ℕ} {h top len p : ℕ} where
             ∙ ap (λ (b : ℕ). link_of (newest (bucket_at bucket ns) b (length ns))) (ap bucket_of e));
       }
 
-  pub walking_done : Walking w h top len p → p < earlier_at → Sought w h top len Nowhere
+  pub walking_done : Walking w h top len p → p < earlier_at → Sought w h top len None
   walking_done c lt =
       record {
         is = λ {q} {ns} {n} o e.
@@ -173,7 +175,7 @@ module _ {w : List ℕ} {h top len p : ℕ} where
           let here : p ≡ earlier_at + x = omega arith in
           z ∙ ap (cell w) here ∙ o.arena.index.earlier_of x among ∙ ap (λ (b : ℕ). link_of (newest (bucket_at bucket ns) b x)) of
 
-    pub walking_here : t ≡ true → Sought w h top len (At x)
+    pub walking_here : t ≡ true → Sought w h top len (Some x)
     walking_here z =
         record {
           is = λ {q} {ns} {n} o e.
@@ -182,7 +184,7 @@ module _ {w : List ℕ} {h top len p : ℕ} where
 
     module _ {v i : ℕ} (other : t ≡ false) (read : v ≡ cell w p) (same : i ≡ v) where
       -- a link that does not fall is in no index
-      pub walking_lost : p ≤ i → Sought w h top len Nowhere
+      pub walking_lost : p ≤ i → Sought w h top len None
       walking_lost up =
           record {
             is = λ {q} {ns} {n} o e.

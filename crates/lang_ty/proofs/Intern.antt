@@ -1,4 +1,5 @@
 -- A row after the others found, refused, or kept as the next node. Assumes nothing.
+use Rattle.std.specs.Prelude.{Option, Some, None}
 use mathlib.Core.Path.{◌≡◌, sym, ap, ap₂, ◌∙◌, subst}
 use Prim.Native.Nat.{ℕ, suc, ◌+◌, ◌≤◌, ◌<◌}
 use native.Mathlib.Omega.{arith}
@@ -17,10 +18,8 @@ use Rattle.laws.proofs.Storing.{by_place, node_before, node_last, rooted_more, d
 use Rattle.laws.proofs.Indexing.{seek_finds}
 use Rattle.laws.specs.Sound.{Distinct, OrderlySet}
 use Rattle.lang_ty.specs.declared.arena.Pass.{Pass}
-use Rattle.lang_ty.specs.declared.arena.Given.{Given}
-use Rattle.lang_ty.specs.declared.arena.Given.TheVariants.{Node as NodeG, Refused}
-use Rattle.lang_ty.specs.declared.arena.Found.{Found}
-use Rattle.lang_ty.specs.declared.arena.Found.TheVariants.{At, Nowhere}
+use Rattle.lang_ty.specs.Given.{Given}
+use Rattle.lang_ty.specs.Given.{Node as NodeG, Refused}
 use Rattle.lang_ty.specs.Buckets.{hash, bucket, Hashed, Linked}
 use Rattle.lang_ty.proofs.Buckets.{bucket_low, Joined, joined, index_more}
 use Rattle.lang_ty.proofs.Words.{low, high}
@@ -120,7 +119,7 @@ module _ {w : List ℕ} {q : Pass} {g end count : ℕ} where
       }
 
 -- `intern`: the search found the row, or did not
-module _ {w : List ℕ} {q : Pass} {top len g count : ℕ} {f : Found} (at_top : top ≡ cell w q.nodes) (of : Hashed w top len g) (sought : Sought w g top len f) where
+module _ {w : List ℕ} {q : Pass} {top len g count : ℕ} {f : Option ℕ} (at_top : top ≡ cell w q.nodes) (of : Hashed w top len g) (sought : Sought w g top len f) where
   module _ {st : State} {n : Node} (on : Stands st w q) (fits : Fits n q.nodes count) (row : Holds w (cell w q.nodes) (encode n))
       (size : len ≡ length (encode n)) where
     hash_of : g ≡ hash (encode n)
@@ -132,7 +131,7 @@ module _ {w : List ℕ} {q : Pass} {top len g count : ℕ} {f : Found} (at_top :
         sought.is {n = n} (record { arena = on.arena; row = holds_place (sym at_top) row; size = size; short = omega (arith, fits.short) }) hash_of
         ∙ seek_finds n st.nodes on.arena.distinct bucket
 
-  pub interned_old : {i : ℕ} → f ≡ At i → Interned w q len count w (NodeG i q)
+  pub interned_old : {i : ℕ} → f ≡ Some i → Interned w q len count w (NodeG i q)
   interned_old {i} e =
       record {
         is = λ {st} {n} on fits row size.
@@ -147,7 +146,7 @@ module _ {w : List ℕ} {q : Pass} {top len g count : ℕ} {f : Found} (at_top :
             };
       }
 
-  pub interned_new : {end : ℕ} {w' : List ℕ} {r : Given} → f ≡ Nowhere → Sum top len end → Kept w q g end count w' r → Interned w q len count w' r
+  pub interned_new : {end : ℕ} {w' : List ℕ} {r : Given} → f ≡ None → Sum top len end → Kept w q g end count w' r → Interned w q len count w' r
   interned_new {w' = w'} {r = r} e sum kept =
       record {
         is = λ {st} {n} on fits row size.

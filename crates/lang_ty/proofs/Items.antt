@@ -1,5 +1,6 @@
 -- The items that nodes are compared by, return by return. Assumes nothing.
 use mathlib.Core.Path.{◌≡◌, refl, sym, ap, ap₂, ◌∙◌}
+use mathlib.Core.Logic.{◌⊎◌, ⊎_elim}
 use Prim.Native.Nat.{ℕ, zero, suc, ◌+◌, ◌-◌, ◌*◌, ◌%◌, ◌≤◌, ◌<◌}
 use native.Mathlib.Omega.{arith}
 use mathlib.Core.List.{List, ◌∷◌, ◌++◌}
@@ -13,28 +14,20 @@ use Rattle.rules.specs.Types.{Node, field_words, encode, kind_of, members, node_
 use Rattle.rules.specs.Order.{end, num, child, list_items, field_items, attr_items, contents}
 use Rattle.rules.specs.Order as rules-order
 use Rattle.laws.proofs.Rows.{attr_words_length, field_words_length, set_fields, set_optional, node_of, by_kind}
-use Rattle.laws.proofs.Ordering.{numbers_less, numbers_equal, numbers_greater, list_items_lem, list_item, list_end, rest_items, set_items, set_length, by_turn, field_item}
+use Rattle.laws.proofs.Ordering.{list_items_lem, list_item, list_end, rest_items, set_items, set_length, by_turn, field_item}
 use Rattle.laws.proofs.Ordering.{field_end, field_rest, rest_none, rest_dyn, rest_behind, plain_length, number_item, name_item, child_item, one_content, no_content}
+use Rattle.lang_ty.specs.declared.arena.OutputTy.{OutputTy}
+use Rattle.lang_ty.specs.declared.arena.OutputTy.TheVariants as kinds
 use Rattle.lang_ty.specs.declared.arena.Pass.{Pass}
 use Rattle.lang_ty.specs.declared.arc_ty.Item.{Item}
 use Rattle.lang_ty.specs.declared.arc_ty.Item.TheVariants.{End, Num, Child}
-use Rattle.lang_ty.specs.declared.arc_ty.Order.TheVariants.{Less, Equal, Greater}
-use Rattle.lang_ty.specs.Nodes.{Arena, Word, Kind}
+use Rattle.lang_ty.specs.Nodes.{code, Arena, Word, Kind}
 use Rattle.lang_ty.specs.Sets.{SetAt, open_from, Fields, Dyns, DynType, OpenPlace, Open, Optionals}
 use Rattle.lang_ty.specs.Shapes.{SetPlace}
-use Rattle.lang_ty.specs.Orders.{Numbers, SetItems, SetRest, SetItem, PlainItems, PlainItem, Composite, ListItem, Items, ItemAt}
+use Rattle.lang_ty.specs.Orders.{SetItems, SetRest, SetItem, PlainKind, PlainItems, PlainItem, Composite, ListItem, Items, ItemAt}
+use Rattle.lang_ty.proofs.Codes.{other, below_bottom, above_primitive}
 use Rattle.lang_ty.proofs.Words.{row_few, word_of}
 use Rattle.lang_ty.proofs.Shapes.{set_of, set_at_lem}
-
-module _ {a b : ℕ} where
-  pub less_is : a < b → Numbers a b Less
-  less_is h = record { is = sym (numbers_less a b h) }
-
-  pub equal_is : a ≡ b → Numbers a b Equal
-  equal_is h = record { is = sym (numbers_equal a b h) }
-
-  pub greater_is : b ≤ a → (a ≡ b → ⊥) → Numbers a b Greater
-  greater_is h e = record { is = sym (numbers_greater a b (omega arith)) }
 
 -- among the fields and the rest
 in_fields : (t : Attr) (i : ℕ) → get_or (attr_items t) i end ≡ get_or (field_items t.fields ++ rest_items t) i end
@@ -156,46 +149,54 @@ module _ {w : List ℕ} {a : ℕ} where
           odd (suc k) h = refl
 
 -- nodes of a plain kind
-module _ {k : ℕ} where
-  pub plain_lambda : k ≡ 3 → PlainItems k 2
-  plain_lambda e = record { is = λ n g p. by_kind n (λ (m : Node). 2 ≡ length (contents m)) 3 (g ∙ e) refl }
+childish : {k i w : ℕ} → 2 ≤ k → (k ≡ 7 → i ≡ 0 → ⊥) → PlainItem k i w (Child w)
+childish {i = i} h f =
+    record {
+      is = λ n g p lt e.
+          ap child e ∙ sym (child_item n i (omega arith) (λ z. p.set (sym g ∙ z)) (λ z. p.union (sym g ∙ z)) (λ z. p.intersection (sym g ∙ z)) (λ z. f (sym g ∙ z)) lt);
+    }
 
-  pub plain_named : k ≡ 7 → PlainItems k 2
-  plain_named e = record { is = λ n g p. by_kind n (λ (m : Node). 2 ≡ length (contents m)) 7 (g ∙ e) refl }
-
-  pub plain_one : (k ≡ 3 → ⊥) → (k ≡ 7 → ⊥) → k < 9 → PlainItems k 1
-  plain_one a b h =
+module _ {k : OutputTy} where
+  pub plain_two : (k ≡ kinds.Lambda) ⊎ (k ≡ kinds.Named) → PlainItems (code k) 2
+  plain_two e =
       record {
         is = λ n g p.
-            sym (one_content n (λ z. a (sym g ∙ z)) (λ z. p.set (sym g ∙ z)) (λ z. p.union (sym g ∙ z)) (λ z. p.intersection (sym g ∙ z)) (λ z. b (sym g ∙ z)) (omega arith));
+            ⊎_elim (λ z. by_kind n (λ (m : Node). 2 ≡ length (contents m)) 3 (g ∙ ap code z) refl)
+            (λ z. by_kind n (λ (m : Node). 2 ≡ length (contents m)) 7 (g ∙ ap code z) refl) e;
       }
 
-  pub plain_none : 9 ≤ k → PlainItems k 0
-  plain_none h = record { is = λ n g p. sym (ap length (no_content n (omega arith))) }
+  pub plain_one : (k ≡ kinds.Lambda → ⊥) → (k ≡ kinds.Named → ⊥) → (k ≡ kinds.Bottom → ⊥) → (k ≡ kinds.Top → ⊥) → PlainItems (code k) 1
+  plain_one a b c d =
+      let low = below_bottom c d in
+      record {
+        is = λ n g p.
+            sym (one_content n (λ z. other kinds.Lambda a (sym g ∙ z)) (λ z. p.set (sym g ∙ z)) (λ z. p.union (sym g ∙ z)) (λ z. p.intersection (sym g ∙ z))
+            (λ z. other kinds.Named b (sym g ∙ z)) (omega arith));
+      }
+
+  pub plain_none : (k ≡ kinds.Bottom) ⊎ (k ≡ kinds.Top) → PlainItems (code k) 0
+  plain_none e =
+      let h : 9 ≤ code k = ⊎_elim (λ z. let y = ap code z in omega arith) (λ z. let y = ap code z in omega arith) e in
+      record { is = λ n g p. sym (ap length (no_content n (omega arith))) }
 
   module _ {i w : ℕ} where
-    pub plain_number : k < 2 → PlainItem k i w (Num w)
-    plain_number h = record { is = λ n g p lt e. ap num e ∙ sym (number_item n i (omega arith) lt) }
+    pub plain_number : (k ≡ kinds.TyVar) ⊎ (k ≡ kinds.Primitive) → PlainItem (code k) i w (Num w)
+    plain_number e =
+        let h : code k < 2 = ⊎_elim (λ z. let y = ap code z in omega arith) (λ z. let y = ap code z in omega arith) e in
+        record { is = λ n g p lt e. ap num e ∙ sym (number_item n i (omega arith) lt) }
 
-    childish : 2 ≤ k → (k ≡ 7 → i ≡ 0 → ⊥) → PlainItem k i w (Child w)
-    childish h f =
-        record {
-          is = λ n g p lt e.
-              ap child e ∙ sym (child_item n i (omega arith) (λ z. p.set (sym g ∙ z)) (λ z. p.union (sym g ∙ z)) (λ z. p.intersection (sym g ∙ z)) (λ z. f (sym g ∙ z)) lt);
-        }
+    pub plain_child : (k ≡ kinds.TyVar → ⊥) → (k ≡ kinds.Primitive → ⊥) → (k ≡ kinds.Named → ⊥) → PlainItem (code k) i w (Child w)
+    plain_child g h f = childish (above_primitive g h) (λ z y. other kinds.Named f z)
 
-    pub plain_child : 2 ≤ k → (k ≡ 7 → ⊥) → PlainItem k i w (Child w)
-    plain_child h f = childish h (λ z y. f z)
-
-    pub plain_name : k ≡ 7 → i ≡ 0 → PlainItem k i w (Num w)
+    pub plain_name : k ≡ kinds.Named → i ≡ 0 → PlainItem (code k) i w (Num w)
     plain_name h f =
         record {
           is = λ n g p lt e.
-              ap num (e ∙ ap (λ (j : ℕ). get_or (encode n) (suc j) 0) f) ∙ sym (ap (λ (j : ℕ). get_or (contents n) j end) f ∙ name_item n (g ∙ h));
+              ap num (e ∙ ap (λ (j : ℕ). get_or (encode n) (suc j) 0) f) ∙ sym (ap (λ (j : ℕ). get_or (contents n) j end) f ∙ name_item n (g ∙ ap code h));
         }
 
-    pub plain_type : k ≡ 7 → (i ≡ 0 → ⊥) → PlainItem k i w (Child w)
-    plain_type h f = childish (omega arith) (λ z y. f y)
+    pub plain_type : k ≡ kinds.Named → (i ≡ 0 → ⊥) → PlainItem (code k) i w (Child w)
+    plain_type h f = let e = ap code h in childish (omega arith) (λ z y. f y)
 
 -- unions and intersections
 union_composite : (n : Node) → kind_of n ≡ 5 → Composite n
@@ -237,44 +238,46 @@ module _ {w : List ℕ} {x : ℕ} where
         }
 
   -- any node
-  module _ {k : ℕ} (kind : Kind w x k) where
-    set_contents : {q : Pass} {ns : List Node} → k ≡ 4 → Arena w q ns → x < length ns → attr_items (set_of ns x) ≡ contents (node_at ns x)
-    set_contents {q} {ns} e h lt = ap contents (node_of (node_at ns x) 4 (sym (kind.is h lt) ∙ e))
+  module _ {k : OutputTy} (kind : Kind w x (code k)) where
+    set_contents : {q : Pass} {ns : List Node} → k ≡ kinds.AttrSet → Arena w q ns → x < length ns → attr_items (set_of ns x) ≡ contents (node_at ns x)
+    set_contents {q} {ns} e h lt = ap contents (node_of (node_at ns x) 4 (sym (kind.is h lt) ∙ ap code e))
 
-    pub items_set : {p r : ℕ} → k ≡ 4 → SetPlace w x p → SetItems w p r → Items w x r
-    items_set e place f = record { is = λ {q} {ns} h lt. f.is (set_at_lem h lt (sym (kind.is h lt) ∙ e) place) ∙ ap length (set_contents e h lt) }
+    pub items_set : {p r : ℕ} → k ≡ kinds.AttrSet → SetPlace w x p → SetItems w p r → Items w x r
+    items_set e place f = record { is = λ {q} {ns} h lt. f.is (set_at_lem h lt (sym (kind.is h lt) ∙ ap code e) place) ∙ ap length (set_contents e h lt) }
 
-    pub item_set : {i p : ℕ} {r : Item} → k ≡ 4 → SetPlace w x p → SetItem w p i r → ItemAt w x i r
+    pub item_set : {i p : ℕ} {r : Item} → k ≡ kinds.AttrSet → SetPlace w x p → SetItem w p i r → ItemAt w x i r
     item_set {i} e place f =
         record {
           is = λ {q} {ns} h lt few.
               let z = ap length (set_contents e h lt) in
-              f.is (set_at_lem h lt (sym (kind.is h lt) ∙ e) place) (omega arith) ∙ ap (λ (l : List rules-order.Item). get_or l i end) (set_contents e h lt);
+              f.is (set_at_lem h lt (sym (kind.is h lt) ∙ ap code e) place) (omega arith) ∙ ap (λ (l : List rules-order.Item). get_or l i end) (set_contents e h lt);
         }
 
-    pub items_union : {n r : ℕ} → k ≡ 5 → Word w x 1 n → Sum n 1 r → Items w x r
-    items_union e a sum = record { is = λ {q} {ns} h lt. many_items a sum h lt (union_composite (node_at ns x) (sym (kind.is h lt) ∙ e)) }
+    composite : {q : Pass} {ns : List Node} → (k ≡ kinds.Union) ⊎ (k ≡ kinds.Intersection) → Arena w q ns → x < length ns → Composite (node_at ns x)
+    composite {q} {ns} e h lt =
+        let z = sym (kind.is h lt) in
+        ⊎_elim (λ u. union_composite (node_at ns x) (z ∙ ap code u)) (λ u. intersection_composite (node_at ns x) (z ∙ ap code u)) e
 
-    pub items_intersection : {n r : ℕ} → k ≡ 6 → Word w x 1 n → Sum n 1 r → Items w x r
-    items_intersection e a sum = record { is = λ {q} {ns} h lt. many_items a sum h lt (intersection_composite (node_at ns x) (sym (kind.is h lt) ∙ e)) }
+    pub items_list : {n r : ℕ} → (k ≡ kinds.Union) ⊎ (k ≡ kinds.Intersection) → Word w x 1 n → Sum n 1 r → Items w x r
+    items_list e a sum = record { is = λ {q} {ns} h lt. many_items a sum h lt (composite e h lt) }
 
-    pub item_union : {i : ℕ} {r : Item} → k ≡ 5 → ListItem w x i r → ItemAt w x i r
-    item_union e f = record { is = λ {q} {ns} h lt few. f.is h lt (union_composite (node_at ns x) (sym (kind.is h lt) ∙ e)) few }
+    pub item_list : {i : ℕ} {r : Item} → (k ≡ kinds.Union) ⊎ (k ≡ kinds.Intersection) → ListItem w x i r → ItemAt w x i r
+    item_list e f = record { is = λ {q} {ns} h lt few. f.is h lt (composite e h lt) few }
 
-    pub item_intersection : {i : ℕ} {r : Item} → k ≡ 6 → ListItem w x i r → ItemAt w x i r
-    item_intersection e f = record { is = λ {q} {ns} h lt few. f.is h lt (intersection_composite (node_at ns x) (sym (kind.is h lt) ∙ e)) few }
+    module _ (a : k ≡ kinds.AttrSet → ⊥) (b : k ≡ kinds.Union → ⊥) (c : k ≡ kinds.Intersection → ⊥) where
+      plain : PlainKind (code k)
+      plain = record { set = other kinds.AttrSet a; union = other kinds.Union b; intersection = other kinds.Intersection c }
 
-    module _ (a : k ≡ 4 → ⊥) (b : k ≡ 5 → ⊥) (c : k ≡ 6 → ⊥) where
-      pub items_plain : {r : ℕ} → PlainItems k r → Items w x r
-      items_plain f = record { is = λ {q} {ns} h lt. f.is (node_at ns x) (sym (kind.is h lt)) (record { set = a; union = b; intersection = c }) }
+      pub items_plain : {r : ℕ} → PlainItems (code k) r → Items w x r
+      items_plain f = record { is = λ {q} {ns} h lt. f.is (node_at ns x) (sym (kind.is h lt)) plain }
 
-      pub item_plain : {i j v : ℕ} {r : Item} → Sum i 1 j → Word w x j v → PlainItem k i v r → ItemAt w x i r
+      pub item_plain : {i j v : ℕ} {r : Item} → Sum i 1 j → Word w x j v → PlainItem (code k) i v r → ItemAt w x i r
       item_plain {i} {j} sum d f =
           record {
             is = λ {q} {ns} h lt few.
                 let n = node_at ns x in
                 let g = kind.is h lt in
-                let l = plain_length n (λ z. a (g ∙ z)) (λ z. b (g ∙ z)) (λ z. c (g ∙ z)) in
+                let l = plain_length n (λ z. plain.set (g ∙ z)) (λ z. plain.union (g ∙ z)) (λ z. plain.intersection (g ∙ z)) in
                 let z : j ≡ suc i = sum.is (omega (arith, row_few h x lt)) ∙ omega arith in
-                f.is n (sym g) (record { set = a; union = b; intersection = c }) few (word_of h d lt (omega arith) ∙ ap (λ (p : ℕ). get_or (encode n) p 0) z);
+                f.is n (sym g) plain few (word_of h d lt (omega arith) ∙ ap (λ (p : ℕ). get_or (encode n) p 0) z);
           }

@@ -1,4 +1,5 @@
 -- Reading and storing nodes, sets in rows, disjointness, order: what the functions' proofs and callers cite.
+pub mod Codes
 pub mod Words
 pub mod Buckets
 pub mod Find

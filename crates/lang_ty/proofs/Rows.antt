@@ -15,8 +15,8 @@ use Rattle.rules.specs.Types.{State, encode, node_at}
 use Rattle.laws.specs.Sound.{OrderlySet}
 use Rattle.laws.proofs.Storing.{store_many}
 use Rattle.lang_ty.specs.declared.arena.Pass.{Pass}
-use Rattle.lang_ty.specs.declared.arena.Given.{Given}
-use Rattle.lang_ty.specs.declared.arena.Given.TheVariants.{Refused}
+use Rattle.lang_ty.specs.Given.{Given}
+use Rattle.lang_ty.specs.Given.{Refused}
 use Rattle.lang_ty.specs.Nodes.{Stands, Top, Interned, Written, Copied, Stored, Listed}
 use Rattle.lang_ty.proofs.Words.{row_end, high}
 use Rattle.lang_ty.proofs.Buckets.{index_alike}

@@ -5,7 +5,7 @@ use mathlib.Core.List.{List, [], ◌∷◌}
 use Rattle.rules.specs.Types.{State, Out, ok, no, bind, Node, encode, cells_of, store}
 use Rattle.laws.specs.Indexed.{series}
 use Rattle.lang_ty.specs.declared.arena.Pass.{Pass}
-use Rattle.lang_ty.specs.declared.arena.Given.TheVariants.{Node as NodeG, Refused}
+use Rattle.lang_ty.specs.Given.{Node as NodeG, Refused}
 use Rattle.lang_ty.specs.Nodes.{Stands, Fits, Stored}
 
 -- nodes stored by the code one after another, from a slice and a pass on: each was told its number

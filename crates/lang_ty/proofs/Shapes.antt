@@ -17,16 +17,19 @@ use Rattle.rules.specs.Members.{is_subtype_of, lacks, Shape, attr_set_s, lambda_
 use Rattle.laws.specs.Sound.{Orderly, OrderlySet}
 use Rattle.laws.proofs.Rows.{node_of}
 use Rattle.laws.proofs.Shapes.{shape_known, shape_other, opaque_first, opaque_second, plain_alike, other_shapes}
+use Rattle.lang_ty.specs.declared.arena.OutputTy.{OutputTy}
+use Rattle.lang_ty.specs.declared.arena.OutputTy.TheVariants as kinds
 use Rattle.lang_ty.specs.declared.arena.Pass.{Pass}
-use Rattle.lang_ty.specs.Nodes.{Arena, Word, Kind}
+use Rattle.lang_ty.specs.Nodes.{code, Arena, Word, Kind}
 use Rattle.lang_ty.specs.Sets.{SetAt, Open, HasField, covers, FieldsCover}
 use Rattle.lang_ty.specs.Shapes.{Subtype, SetPlace, Lacks, Apart, Constructor, SameDisjoint, Disjoint}
+use Rattle.lang_ty.proofs.Codes.{other}
 use Rattle.lang_ty.proofs.Words.{row_few, primitive_at}
 use Rattle.cells.specs.Placed.{Holds}
 
-pub subtype_no : {a b : ℕ} → (b ≡ 2 → ⊥) → Subtype a b false
+pub subtype_no : {a b : ℕ} → (b ≡ 2 → ⊥) → Subtype a b (eqb b 2)
 unfolding is_subtype_of
-subtype_no {a} {b} h = record { is = sym (ap (λ (t : Bool). both t (λ _. ltb a 2)) (ne_eqb b 2 h)) }
+subtype_no {a} {b} h = record { is = ne_eqb b 2 h ∙ sym (ap (λ (t : Bool). both t (λ _. ltb a 2)) (ne_eqb b 2 h)) }
 
 pub subtype_yes : {a b : ℕ} {r : Bool} → b ≡ 2 → r ≡ ltb a 2 → Subtype a b r
 unfolding is_subtype_of
@@ -67,11 +70,13 @@ lacks_covers t u =
     (any_all _ (covers u t) (field_keys u.fields) (λ k. ap not (or_swap (contains (field_keys t.fields) k) (contains u.optional k))))
 
 module _ {w : List ℕ} {a b o : ℕ} (closed : Open w a o) where
-  pub lacks_open : (o ≡ 0 → ⊥) → Lacks w a b false
+  pub lacks_open : (o ≡ 0 → ⊥) → Lacks w a b (eqb o 0)
   lacks_open h =
       record {
         is = λ {t} {u} s v p q.
-            sym (ap (λ (c : Bool). both c (λ _. not (all (covers u t) (field_keys u.fields)))) (ne_eqb t.is_open 0 (λ z. h (closed.is s ∙ z)))) ∙ sym (lacks_covers t u);
+            ne_eqb o 0 h
+            ∙ sym (ap (λ (c : Bool). both c (λ _. not (all (covers u t) (field_keys u.fields)))) (ne_eqb t.is_open 0 (λ z. h (closed.is s ∙ z))))
+            ∙ sym (lacks_covers t u);
       }
 
   pub lacks_closed : {c r : Bool} → o ≡ 0 → FieldsCover w b a c → r ≡ not c → Lacks w a b r
@@ -82,18 +87,6 @@ module _ {w : List ℕ} {a b o : ℕ} (closed : Open w a o) where
             ∙ sym (ap (λ (c : Bool). both c (λ _. not (all (covers u t) (field_keys u.fields)))) (eq-eqb t.is_open 0 (sym (closed.is s) ∙ h)))
             ∙ sym (lacks_covers t u);
       }
-
-module _ {a b : ℕ} where
-  pub apart_equal : a ≡ b → Apart a b false
-  apart_equal e = record { is = sym (ap (λ (t : Bool). not (t || is_subtype_of a b || is_subtype_of b a)) (eq-eqb a b e)) }
-
-  module _ {s : Bool} (differ : a ≡ b → ⊥) (below : Subtype a b s) where
-    pub apart_below : s ≡ true → Apart a b false
-    apart_below e = record { is = sym (ap₂ (λ (t u : Bool). not (t || u || is_subtype_of b a)) (ne_eqb a b differ) (sym below.is ∙ e)) }
-
-    pub apart_last : {u r : Bool} → s ≡ false → Subtype b a u → r ≡ not u → Apart a b r
-    apart_last e above g =
-        record { is = g ∙ ap not above.is ∙ sym (ap₂ (λ (t u : Bool). not (t || u || is_subtype_of b a)) (ne_eqb a b differ) (sym below.is ∙ e)) }
 
 -- the kinds of known constructors are 1 to 4
 abbrev known : ℕ → Bool
@@ -116,12 +109,6 @@ known_out k e a b = let z = leb-false k 4 (known_low k a ∙ e) in omega arith
 known_in : (k : ℕ) → known k ≡ true → (1 ≤ k) × (k ≤ 4)
 known_in zero e = let z : ◌≡◌ {A = ℕ} 0 1 = cc in absurd (omega arith)
 known_in (suc k) e = (omega arith, leb-true (suc k) 4 (known_low (suc k) (omega arith) ∙ e))
-
-pub constructor_none : {k : ℕ} → k < 1 → Constructor k false
-constructor_none {k} h = let z : 0 ≡ k = omega arith in record { is = ap known z }
-
-pub constructor_some : {k : ℕ} {r : Bool} → 1 ≤ k → r ≡ leb k 4 → Constructor k r
-constructor_some {k} h e = record { is = e ∙ known_low k h }
 
 -- the set of node x
 abbrev pub set_of : List Node → ℕ → Attr
@@ -148,17 +135,19 @@ lambda_shape : (ns : List Node) (x : ℕ) → kind_of (node_at ns x) ≡ 3 → l
 lambda_shape ns x e = ap shape_of (node_of (node_at ns x) 3 e)
 
 -- two of one constructor
-module _ {w : List ℕ} {k a b : ℕ} where
-  pub same_primitive : {x y : ℕ} {r : Bool} → k ≡ 1 → Word w a 1 x → Word w b 1 y → Apart x y r → SameDisjoint w k a b r
+module _ {w : List ℕ} {k : OutputTy} {a b : ℕ} where
+  pub same_primitive : {x y : ℕ} {r : Bool} → k ≡ kinds.Primitive → Word w a 1 x → Word w b 1 y → Apart x y r → SameDisjoint w (code k) a b r
   unfolding are_shapes_disjoint
   same_primitive e x y g =
       record {
         is = λ {q} {ns} h la lb ea eb low high functor.
-            by_shapes ns functor a b (ap shape_of (primitive_at h la (ea ∙ e) x)) (ap shape_of (primitive_at h lb (eb ∙ e) y)) g.is;
+            by_shapes ns functor a b (ap shape_of (primitive_at h la (ea ∙ ap code e) x)) (ap shape_of (primitive_at h lb (eb ∙ ap code e) y)) g.is;
       }
 
-  pub same_plain : (k ≡ 1 → ⊥) → (k ≡ 4 → ⊥) → SameDisjoint w k a b false
-  same_plain f g =
+  pub same_plain : (k ≡ kinds.Primitive → ⊥) → (k ≡ kinds.AttrSet → ⊥) → SameDisjoint w (code k) a b false
+  same_plain f' g' =
+      let f = other kinds.Primitive f' in
+      let g = other kinds.AttrSet g' in
       record {
         is = λ {q} {ns} h la lb ea eb low high functor.
             let x = shape_known (node_at ns a) (omega arith) (omega arith) in
@@ -166,17 +155,20 @@ module _ {w : List ℕ} {k a b : ℕ} where
             by_shapes ns functor a b refl refl (sym (plain_alike functor (shape_of (node_at ns a)) (shape_of (node_at ns b)) (omega arith) (omega arith) (omega arith)));
       }
 
-  module _ {x y : ℕ} {c : Bool} (e : k ≡ 4) (px : SetPlace w a x) (py : SetPlace w b y) (one : Lacks w x y c) where
-    pub same_first : c ≡ true → SameDisjoint w k a b true
+  module _ {x y : ℕ} {c : Bool} (is_set : k ≡ kinds.AttrSet) (px : SetPlace w a x) (py : SetPlace w b y) (one : Lacks w x y c) where
+    e : code k ≡ 4
+    e = ap code is_set
+
+    pub same_first : c ≡ true → SameDisjoint w (code k) a b c
     unfolding are_shapes_disjoint
     same_first t =
         record {
           is = λ {q} {ns} h la lb ea eb low high functor.
               by_shapes ns functor a b (set_shape_lem ns a (ea ∙ e)) (set_shape_lem ns b (eb ∙ e))
-              (ap (λ (z : Bool). z || lacks (set_of ns b) (set_of ns a)) (sym t ∙ one.is (set_at_lem h la (ea ∙ e) px) (set_at_lem h lb (eb ∙ e) py) (set_orderly h la (ea ∙ e)) (set_orderly h lb (eb ∙ e))));
+              (t ∙ ap (λ (z : Bool). z || lacks (set_of ns b) (set_of ns a)) (sym t ∙ one.is (set_at_lem h la (ea ∙ e) px) (set_at_lem h lb (eb ∙ e) py) (set_orderly h la (ea ∙ e)) (set_orderly h lb (eb ∙ e))));
         }
 
-    pub same_second : {d : Bool} → c ≡ false → Lacks w y x d → SameDisjoint w k a b d
+    pub same_second : {d : Bool} → c ≡ false → Lacks w y x d → SameDisjoint w (code k) a b d
     unfolding are_shapes_disjoint
     same_second t two =
         record {
@@ -209,34 +201,36 @@ module _ {w : List ℕ} {functor a b j k : ℕ} (first : Kind w a j) (second : K
             by_shapes ns functor a b refl (sym (shape_other (node_at ns b) (λ x y. out (omega arith) (omega arith)))) (sym (opaque_second functor (shape_of (node_at ns a))));
       }
 
-  pub disjoint_same : {c r : Bool} → Constructor j c → not c ≡ false → j ≡ k → SameDisjoint w j a b r → Disjoint w functor a b r
-  disjoint_same {c} con e f g =
-      record {
-        is = λ h la lb.
-            let z = known_in j (sym con.is ∙ not-false c e) in
-            g.is h la lb (sym (first.is h la)) (sym (second.is h lb) ∙ sym f) z.0 z.1 functor;
-      }
-
-  pub disjoint_set_lambda : {p : ℕ} {c r : Bool} → j ≡ 4 → k ≡ 3 → SetPlace w a p → HasField w p functor c → r ≡ not c → Disjoint w functor a b r
+module _ {w : List ℕ} {functor a b : ℕ} {j k : OutputTy} (first : Kind w a (code j)) (second : Kind w b (code k)) where
+  pub disjoint_set_lambda : {p : ℕ} {c r : Bool} → j ≡ kinds.AttrSet → k ≡ kinds.Lambda → SetPlace w a p → HasField w p functor c → r ≡ not c → Disjoint w functor a b r
   unfolding are_shapes_disjoint
   disjoint_set_lambda e f p g n =
       record {
         is = λ {q} {ns} h la lb.
-            let x = sym (first.is h la) ∙ e in
-            by_shapes ns functor a b (set_shape_lem ns a x) (lambda_shape ns b (sym (second.is h lb) ∙ f)) (n ∙ ap not (g.is (set_at_lem h la x p) (set_orderly h la x)));
+            let x = sym (first.is h la) ∙ ap code e in
+            by_shapes ns functor a b (set_shape_lem ns a x) (lambda_shape ns b (sym (second.is h lb) ∙ ap code f)) (n ∙ ap not (g.is (set_at_lem h la x p) (set_orderly h la x)));
       }
 
-  pub disjoint_lambda_set : {p : ℕ} {c r : Bool} → j ≡ 3 → k ≡ 4 → SetPlace w b p → HasField w p functor c → r ≡ not c → Disjoint w functor a b r
+  pub disjoint_lambda_set : {p : ℕ} {c r : Bool} → j ≡ kinds.Lambda → k ≡ kinds.AttrSet → SetPlace w b p → HasField w p functor c → r ≡ not c → Disjoint w functor a b r
   unfolding are_shapes_disjoint
   disjoint_lambda_set e f p g n =
       record {
         is = λ {q} {ns} h la lb.
-            let x = sym (second.is h lb) ∙ f in
-            by_shapes ns functor a b (lambda_shape ns a (sym (first.is h la) ∙ e)) (set_shape_lem ns b x) (n ∙ ap not (g.is (set_at_lem h lb x p) (set_orderly h lb x)));
+            let x = sym (second.is h lb) ∙ ap code f in
+            by_shapes ns functor a b (lambda_shape ns a (sym (first.is h la) ∙ ap code e)) (set_shape_lem ns b x) (n ∙ ap not (g.is (set_at_lem h lb x p) (set_orderly h lb x)));
+      }
+
+module _ {w : List ℕ} {functor a b j k m n : ℕ} (first : Kind w a j) (second : Kind w b k) (mj : m ≡ j) (nk : n ≡ k) where
+  pub disjoint_same : {c r : Bool} → Constructor j c → not c ≡ false → m ≡ n → SameDisjoint w j a b r → Disjoint w functor a b r
+  disjoint_same {c} con e f g =
+      record {
+        is = λ h la lb.
+            let z = known_in j (sym con.is ∙ not-false c e) in
+            g.is h la lb (sym (first.is h la)) (sym (second.is h lb) ∙ sym (sym mj ∙ f ∙ nk)) z.0 z.1 functor;
       }
 
   -- neither alike nor a set and a lambda
-  module _ {c d : Bool} (con : Constructor j c) (e : not c ≡ false) (con' : Constructor k d) (f : not d ≡ false) (differ : j ≡ k → ⊥) where
+  module _ {c d : Bool} (con : Constructor j c) (e : not c ≡ false) (con' : Constructor k d) (f : not d ≡ false) (differ : m ≡ n → ⊥) where
     others : (j + k ≡ 7 → ⊥) → Disjoint w functor a b true
     others g =
         record {
@@ -251,11 +245,19 @@ module _ {w : List ℕ} {functor a b j k : ℕ} (first : Kind w a j) (second : K
               (sym (other_shapes functor (shape_of (node_at ns a)) (shape_of (node_at ns b)) (omega (arith, y.0)) (omega (arith, z.0)) (λ q. differ (omega arith)) (λ q. g (omega arith))));
         }
 
-    pub disjoint_set : j ≡ 4 → (k ≡ 3 → ⊥) → Disjoint w functor a b true
-    disjoint_set g h = others (λ z. h (omega arith))
+module _ {w : List ℕ} {functor a b m n : ℕ} {j : OutputTy} (first : Kind w a (code j)) (mj : m ≡ code j) {c d : Bool} (con : Constructor (code j) c) (e : not c ≡ false) where
+  module _ {k : OutputTy} (second : Kind w b (code k)) (nk : n ≡ code k) (con' : Constructor (code k) d) (f : not d ≡ false) (differ : m ≡ n → ⊥) where
+    pub disjoint_set : j ≡ kinds.AttrSet → (k ≡ kinds.Lambda → ⊥) → Disjoint w functor a b true
+    disjoint_set g h = let x = ap code g in others first second mj nk con e con' f differ (λ z. other kinds.Lambda h (omega arith))
 
-    pub disjoint_others : (j ≡ 4 → ⊥) → (j ≡ 3 → ⊥) → Disjoint w functor a b true
-    disjoint_others g h = let y = known_in j (sym con.is ∙ not-false c e) in let z = known_in k (sym con'.is ∙ not-false d f) in others (λ x. g (omega (arith, y.1, z.1, h)))
+    pub disjoint_lambda : j ≡ kinds.Lambda → (k ≡ kinds.AttrSet → ⊥) → Disjoint w functor a b true
+    disjoint_lambda g h = let x = ap code g in others first second mj nk con e con' f differ (λ z. other kinds.AttrSet h (omega arith))
 
-    pub disjoint_lambda : j ≡ 3 → (k ≡ 4 → ⊥) → Disjoint w functor a b true
-    disjoint_lambda g h = others (λ z. h (omega arith))
+  pub disjoint_others : {k : ℕ} → Kind w b k → n ≡ k → Constructor k d → not d ≡ false → (m ≡ n → ⊥) → (j ≡ kinds.AttrSet → ⊥) → (j ≡ kinds.Lambda → ⊥)
+      → Disjoint w functor a b true
+  disjoint_others {k} second nk con' f differ g' h' =
+      let g = other kinds.AttrSet g' in
+      let h = other kinds.Lambda h' in
+      let y = known_in (code j) (sym con.is ∙ not-false c e) in
+      let z = known_in k (sym con'.is ∙ not-false d f) in
+      others first second mj nk con e con' f differ (λ x. g (omega (arith, y.1, z.1, h)))

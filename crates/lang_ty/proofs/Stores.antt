@@ -12,8 +12,8 @@ use Rattle.layout.specs.Layout.{newest_at, buckets, arena_words, arena_length}
 use Rattle.laws.proofs.Storing.{distinct_none}
 use Rattle.rules.specs.Types.{State, Out, no, Node, TyVar, Primitive, ListOf, Lambda, Union, Intersection, Named, Bottom, encode, store}
 use Rattle.lang_ty.specs.declared.arena.Pass.{Pass}
-use Rattle.lang_ty.specs.declared.arena.Given.{Given}
-use Rattle.lang_ty.specs.declared.arena.Given.TheVariants.{Node as NodeG, Refused}
+use Rattle.lang_ty.specs.Given.{Given}
+use Rattle.lang_ty.specs.Given.{Node as NodeG, Refused}
 use Rattle.lang_ty.specs.Nodes.{Arena, Stands, Fresh, Gives, Answer, Answers, Fits, Stored}
 
 module _ {o : Out ℕ} {w : List ℕ} {r : Given} where

@@ -1,5 +1,6 @@
 -- Reading a node: its words are its row's. Assumes nothing.
 use mathlib.Core.Path.{◌≡◌, sym, ap, ap₂, ◌∙◌}
+use mathlib.Core.Logic.{◌⊎◌, ⊎_elim}
 use mathlib.Core.Bool.{Bool}
 use Prim.Native.Nat.{ℕ, zero, suc, ◌+◌, ◌-◌, ◌≤◌, ◌<◌}
 use native.Mathlib.Omega.{arith}
@@ -12,8 +13,11 @@ use Rattle.cells.proofs.Holding.{holds_at}
 use Rattle.layout.specs.Layout.{arena_words}
 use Rattle.rules.specs.Types.{Node, TyVar, Primitive, Neg, encode, kind_of, members, node_at}
 use Rattle.laws.proofs.Rows.{node_by, node_of, by_kind, row_some, union_row, intersection_row, no_members, members_row}
+use Rattle.lang_ty.specs.declared.arena.OutputTy.{OutputTy}
+use Rattle.lang_ty.specs.declared.arena.OutputTy.TheVariants as kinds
 use Rattle.lang_ty.specs.declared.arena.Pass.{Pass}
-use Rattle.lang_ty.specs.Nodes.{highest, Arena, Word, Kind, Is, Count, Member}
+use Rattle.lang_ty.proofs.Codes.{kind_small, other}
+use Rattle.lang_ty.specs.Nodes.{code, highest, Arena, Word, Kind, Is, Count, Member}
 
 pub word_is : {w : List ℕ} {x i a p r : ℕ} → a ≡ cell w x → p ≡ a + i → r ≡ cell w p → Word w x i r
 word_is {w} {x} {i} e f g = record { is = g ∙ ap (cell w) (f ∙ ap (λ (k : ℕ). k + i) e) }
@@ -59,11 +63,15 @@ module _ {w : List ℕ} {q : Pass} {ns : List Node} (h : Arena w q ns) where
     pub neg_at : kind_of (node_at ns x) ≡ 8 → Word w x 1 r → Neg r ≡ node_at ns x
     neg_at e a = one_at 8 (λ row. omega arith) lt e a ∙ node_of (node_at ns x) 8 e
 
-pub kind_is : {w : List ℕ} {x r : ℕ} → Word w x 0 r → Kind w x r
-kind_is {x = x} a = record { is = λ {q} {ns} h lt. word_of h a lt (row_some (node_at ns x)) }
+-- the first word of a node is its kind's number
+first_word : {w : List ℕ} {x j : ℕ} → Word w x 0 j → Kind w x j
+first_word {x = x} a = record { is = λ {q} {ns} h lt. word_of h a lt (row_some (node_at ns x)) }
 
-pub is_is : {w : List ℕ} {k x j : ℕ} {r : Bool} → Kind w x j → r ≡ eqb j k → Is w k x r
-is_is {k = k} a e = record { is = λ h lt. e ∙ ap (λ (j : ℕ). eqb j k) (a.is h lt) }
+pub kind_is : {w : List ℕ} {x j r : ℕ} → Word w x 0 j → (j ≤ 10 → r ≡ j) → Kind w x r
+kind_is {x = x} a f = record { is = λ {q} {ns} h lt. let e = (first_word a).is h lt in f (omega (arith, kind_small (node_at ns x))) ∙ e }
+
+pub is_is : {w : List ℕ} {n k x j : ℕ} {r : Bool} → Word w x 0 j → n ≡ k → r ≡ eqb j n → Is w k x r
+is_is a f e = record { is = λ h lt. e ∙ ap₂ eqb ((first_word a).is h lt) f }
 
 -- the number of members where the row has it, and where there are none
 counted : {w : List ℕ} {x r j : ℕ} {q : Pass} {ns : List Node} → Word w x 1 r → Arena w q ns → x < length ns
@@ -76,9 +84,21 @@ count_union {x = x} a e b = record { is = λ {q} {ns} h lt. counted b h lt (unio
 pub count_intersection : {w : List ℕ} {x k r : ℕ} → Kind w x k → k ≡ 6 → Word w x 1 r → Count w x r
 count_intersection {x = x} a e b = record { is = λ {q} {ns} h lt. counted b h lt (intersection_row (node_at ns x) (sym (a.is h lt) ∙ e)) }
 
-pub count_none : {w : List ℕ} {x k : ℕ} → Kind w x k → (k ≡ 5 → ⊥) → (k ≡ 6 → ⊥) → Count w x 0
-count_none {x = x} a e f =
-    record { is = λ {q} {ns} h lt. sym (ap length (no_members (node_at ns x) (λ z. e (a.is h lt ∙ z)) (λ z. f (a.is h lt ∙ z)))) }
+-- a kind by its number
+pub numbered : {w : List ℕ} {x j k : ℕ} → Kind w x k → j ≡ k → Kind w x j
+numbered a e = record { is = λ h lt. e ∙ a.is h lt }
+
+module _ {w : List ℕ} {x : ℕ} {k : OutputTy} (a : Kind w x (code k)) where
+  pub count_some : {r : ℕ} → (k ≡ kinds.Union) ⊎ (k ≡ kinds.Intersection) → Word w x 1 r → Count w x r
+  count_some e b = ⊎_elim (λ u. count_union a (ap code u) b) (λ u. count_intersection a (ap code u) b) e
+
+  pub count_none : (k ≡ kinds.Union → ⊥) → (k ≡ kinds.Intersection → ⊥) → Count w x 0
+  count_none e f =
+      record {
+        is = λ {q} {ns} h lt.
+            let g = a.is h lt in
+            sym (ap length (no_members (node_at ns x) (λ z. other kinds.Union e (g ∙ z)) (λ z. other kinds.Intersection f (g ∙ z))));
+      }
 
 pub member_is : {w : List ℕ} {x i j r : ℕ} → Sum i 2 j → Word w x j r → Member w x i r
 member_is {x = x} {i} {j} a b =

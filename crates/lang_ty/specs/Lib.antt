@@ -1,4 +1,5 @@
 pub mod Buckets
+pub mod Given
 pub mod Nodes
 pub mod Sets
 pub mod Shapes

@@ -1,7 +1,7 @@
 -- Nodes as rows in a lent slice: the row of node i is the cells from the place that cell i tells up to the place that cell i + 1 tells. How the
 -- slice stands for the rules' state of a pass, and what the functions of arena.rt ensure. Each contract's premises are arguments of its fields.
-use Rattle.std.specs.Prelude.{◌≡◌, Bool, ℕ, suc, ◌+◌, ◌*◌, ◌≤◌, ◌<◌, List, [], ◌∷◌, ◌++◌, length, get_or, set}
-use Rattle.std.proofs.Math.Option.{Option, none, some}
+use Rattle.std.specs.Prelude.{Option, Some, None, ◌≡◌, Bool, ℕ, suc, ◌+◌, ◌*◌, ◌≤◌, ◌<◌, List, [], ◌∷◌, ◌++◌, length, get_or, set}
+use Rattle.std.proofs.Math.Option.{Option as Maybe, none, some}
 use Rattle.cells.specs.Part.{cell, part, eq_list}
 use Rattle.layout.specs.Layout.{arena_words, arena_length}
 use Rattle.rules.specs.Ceilings.{most_members, most_nodes, most_cells}
@@ -9,15 +9,29 @@ use Rattle.rules.specs.Types.{State, Out, ok, no, encode, kind_of, members, chil
 use Rattle.rules.specs.Types as rules
 use Rattle.rules.specs.Canonicalizer as runs
 use Rattle.lang_ty.specs.declared.arena.Pass.{Pass}
-use Rattle.lang_ty.specs.declared.arena.Given.{Given}
-use Rattle.lang_ty.specs.declared.arena.Given.TheVariants.{Node, Refused}
+use Rattle.lang_ty.specs.declared.arena.OutputTy.{OutputTy}
+use Rattle.lang_ty.specs.declared.arena.OutputTy.TheVariants as kinds
+use Rattle.lang_ty.specs.Given.{Given}
+use Rattle.lang_ty.specs.Given.{Node, Refused}
 use Rattle.lang_ty.specs.declared.arena.Shown.{Shown}
-use Rattle.lang_ty.specs.declared.arena.Found.{Found}
-use Rattle.lang_ty.specs.declared.arena.Found.TheVariants.{At, Nowhere}
 use Rattle.cells.specs.Placed.{Holds, Under}
 use Rattle.laws.specs.Sound.{Distinct, OrderlySet, Ordered}
 use Rattle.laws.specs.Indexed.{seek_node}
 use Rattle.lang_ty.specs.Buckets.{hash, bucket, Indexed}
+
+-- a kind's number, which is the first word of its rows
+abbrev pub code : OutputTy → ℕ
+code kinds.TyVar = 0
+code kinds.Primitive = 1
+code kinds.List = 2
+code kinds.Lambda = 3
+code kinds.AttrSet = 4
+code kinds.Union = 5
+code kinds.Intersection = 6
+code kinds.Named = 7
+code kinds.Neg = 8
+code kinds.Bottom = 9
+code kinds.Top = 10
 
 -- where the last row ends at most
 abbrev pub highest : ℕ
@@ -107,11 +121,11 @@ pub record Hit (w : List ℕ) (x h top len : ℕ) (r : Bool) : Type 0 where
   pub is : {q : Pass} {ns : List rules.Node} {n : rules.Node} → Offered w q top len ns n → h ≡ hash (encode n) → x < length ns
       → r ≡ eq_list (encode n) (encode (node_at ns x))
 
-abbrev pub found_of : Found → Option ℕ
-found_of (At i) = some i
-found_of Nowhere = none
+abbrev pub found_of : Option ℕ → Maybe ℕ
+found_of (Some i) = some i
+found_of None = none
 
-pub record Sought (w : List ℕ) (h top len : ℕ) (r : Found) : Type 0 where
+pub record Sought (w : List ℕ) (h top len : ℕ) (r : Option ℕ) : Type 0 where
   pub is : {q : Pass} {ns : List rules.Node} {n : rules.Node} → Offered w q top len ns n → h ≡ hash (encode n) → found_of r ≡ seek_node bucket n ns
 
 -- what is asked of a node that is to be stored after k others: its cells, members no more than may be, its children among those, keys in order,

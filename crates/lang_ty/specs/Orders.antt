@@ -8,8 +8,8 @@ use Rattle.rules.specs.Order as rules-order
 use Rattle.lang_ty.specs.declared.arena.Pass.{Pass}
 use Rattle.lang_ty.specs.declared.arc_ty.Item.{Item}
 use Rattle.lang_ty.specs.declared.arc_ty.Item.TheVariants.{End, Num, Child}
-use Rattle.lang_ty.specs.declared.arc_ty.Order.{Order}
-use Rattle.lang_ty.specs.declared.arc_ty.Order.TheVariants.{Less, Equal, Greater}
+use Rattle.std.specs.declared.cmp.Ordering.{Ordering}
+use Rattle.std.specs.declared.cmp.Ordering.TheVariants.{Less, Equal, Greater}
 use Rattle.lang_ty.specs.Nodes.{Arena}
 use Rattle.lang_ty.specs.Sets.{SetAt}
 
@@ -30,12 +30,12 @@ item_of End = end
 item_of (Num x) = num x
 item_of (Child x) = child x
 
-abbrev pub order_of : Order → rules-order.Order
+abbrev pub order_of : Ordering → rules-order.Order
 order_of Less = less
 order_of Equal = equal
 order_of Greater = greater
 
-pub record Numbers (a b : ℕ) (r : Order) : Type 0 where
+pub record Numbers (a b : ℕ) (r : Ordering) : Type 0 where
   pub is : order_of r ≡ compare_numbers a b
 
 -- how many items the set at a has, and item i of them, of all and of those after its fields
@@ -78,14 +78,14 @@ pub record ItemAt (w : List ℕ) (x i : ℕ) (r : Item) : Type 0 where
   pub is : {q : Pass} {ns : List Node} → Arena w q ns → x < length ns → i < length (contents (node_at ns x)) → item_of r ≡ get_or (contents (node_at ns x)) i end
 
 -- two items, the first no child
-pub record Plainly (a b : Item) (r : Order) : Type 0 where
+pub record Plainly (a b : Item) (r : Ordering) : Type 0 where
   pub is : (o : ℕ → ℕ → rules-order.Order) → ((x : ℕ) → a ≡ Child x → ⊥) → order_of r ≡ compare_item o (item_of a) (item_of b)
 
-pub record ComparedAt (w : List ℕ) (a b i : ℕ) (r : Order) : Type 0 where
+pub record ComparedAt (w : List ℕ) (a b i : ℕ) (r : Ordering) : Type 0 where
   pub is : {q : Pass} {ns : List Node} → Arena w q ns → a < length ns → b < length ns → i < length (contents (node_at ns a))
       → i < length (contents (node_at ns b))
       → order_of r ≡ compare_item (order (length ns) ns) (get_or (contents (node_at ns a)) i end) (get_or (contents (node_at ns b)) i end)
 
 -- "by kind in OutputTy's order, then contents"
-pub record Compared (w : List ℕ) (a b : ℕ) (r : Order) : Type 0 where
+pub record Compared (w : List ℕ) (a b : ℕ) (r : Ordering) : Type 0 where
   pub is : {q : Pass} {ns : List Node} → Arena w q ns → a < length ns → b < length ns → order_of r ≡ order (length ns) ns a b

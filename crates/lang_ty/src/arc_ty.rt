@@ -1,49 +1,36 @@
 // OutputTy's children and order.
+ghost use Rattle.lang_ty.specs.Nodes.{code};
 ghost use Rattle.lang_ty.specs.Orders.{FirstChild, Children, ChildAt, Numbers, SetItems, SetRest, SetItem, PlainItems, PlainItem, ListItem, Items, ItemAt, Plainly, ComparedAt, Compared};
 
 use crate::arena::{OutputTy, kind, word};
 use crate::attrset;
 use crate::disjoint::set_place;
 use cells::{add, get, place};
+use std::cmp::Ordering;
 
 // How many children node x has.
 pub fn children(arena: &[u32], x: u32) -> u32
     ensures { Children arena.now x result }
 {
-    let k = kind(arena, x);
-    if k == OutputTy::ATTR_SET {
-        let a = set_place(arena, x);
-        return add(attrset::fields(arena, a), attrset::dyns(arena, a));
+    match kind(arena, x) {
+        OutputTy::AttrSet => {
+            let a = set_place(arena, x);
+            add(attrset::fields(arena, a), attrset::dyns(arena, a))
+        }
+        OutputTy::Lambda => 2,
+        OutputTy::List | OutputTy::Named | OutputTy::Neg => 1,
+        _ => crate::arena::count(arena, x),
     }
-    if k == OutputTy::LAMBDA {
-        return 2;
-    }
-    if k == OutputTy::LIST {
-        return 1;
-    }
-    if k == OutputTy::NAMED {
-        return 1;
-    }
-    if k == OutputTy::NEG {
-        return 1;
-    }
-    crate::arena::count(arena, x)
 }
 
 // The word of a row from which on the children of a node of kind k stand; not of a set.
-fn first_child(k: u32) -> u32
-    ensures { FirstChild k result }
+fn first_child(k: OutputTy) -> u32
+    ensures { FirstChild (code k) result }
 {
-    if k == OutputTy::LIST {
-        return 1;
+    match k {
+        OutputTy::List | OutputTy::Lambda | OutputTy::Neg => 1,
+        _ => 2,
     }
-    if k == OutputTy::LAMBDA {
-        return 1;
-    }
-    if k == OutputTy::NEG {
-        return 1;
-    }
-    2
 }
 
 // Child i of node x, from left to right: fields, then dyn.
@@ -51,21 +38,16 @@ pub fn child(arena: &[u32], x: u32, i: u32) -> u32
     ensures { ChildAt arena.now x i result }
 {
     let k = kind(arena, x);
-    if k != OutputTy::ATTR_SET {
-        return word(arena, x, add(i, first_child(k)));
+    match k {
+        OutputTy::AttrSet => {
+            let a = set_place(arena, x);
+            if i < attrset::fields(arena, a) {
+                return attrset::field_type(arena, a, i);
+            }
+            attrset::dyn_type(arena, a)
+        }
+        _ => word(arena, x, add(i, first_child(k))),
     }
-    let a = set_place(arena, x);
-    if i < attrset::fields(arena, a) {
-        return attrset::field_type(arena, a, i);
-    }
-    attrset::dyn_type(arena, a)
-}
-
-#[derive(Clone, Copy)]
-pub enum Order {
-    Less,
-    Equal,
-    Greater,
 }
 
 // What two nodes are compared by, one after another: a list's end comes before anything that goes on.
@@ -76,16 +58,10 @@ enum Item {
     Child(u32),
 }
 
-fn compare_numbers(a: u32, b: u32) -> Order
+fn compare_numbers(a: u32, b: u32) -> Ordering
     ensures { Numbers a b result }
 {
-    if a < b {
-        return Order::Less;
-    }
-    if a == b {
-        return Order::Equal;
-    }
-    Order::Greater
+    a.cmp(&b)
 }
 
 // How many items the set at a has: its fields and their end, dyn or none, open, the optional keys and their end.
@@ -135,19 +111,14 @@ fn set_item(words: &[u32], a: u32, i: u32) -> Item
 }
 
 // How many items a node of kind k has besides its kind; not of a set or a list of members.
-fn plain_items(k: u32) -> u32
-    ensures { PlainItems k result }
+fn plain_items(k: OutputTy) -> u32
+    ensures { PlainItems (code k) result }
 {
-    if k == OutputTy::LAMBDA {
-        return 2;
+    match k {
+        OutputTy::Lambda | OutputTy::Named => 2,
+        OutputTy::Bottom | OutputTy::Top => 0,
+        _ => 1,
     }
-    if k == OutputTy::NAMED {
-        return 2;
-    }
-    if k < OutputTy::BOTTOM {
-        return 1;
-    }
-    0
 }
 
 // How many items node x has besides its kind.
@@ -155,32 +126,27 @@ fn items(arena: &[u32], x: u32) -> u32
     ensures { Items arena.now x result }
 {
     let k = kind(arena, x);
-    if k == OutputTy::ATTR_SET {
-        return set_items(arena, set_place(arena, x));
+    match k {
+        OutputTy::AttrSet => set_items(arena, set_place(arena, x)),
+        OutputTy::Union | OutputTy::Intersection => add(word(arena, x, 1), 1),
+        _ => plain_items(k),
     }
-    if k == OutputTy::UNION {
-        return add(word(arena, x, 1), 1);
-    }
-    if k == OutputTy::INTERSECTION {
-        return add(word(arena, x, 1), 1);
-    }
-    plain_items(k)
 }
 
 // Item i of a node of kind k, whose word it is; not of a set or a list of members.
-fn plain_item(k: u32, i: u32, w: u32) -> Item
-    ensures { PlainItem k i w result }
+fn plain_item(k: OutputTy, i: u32, w: u32) -> Item
+    ensures { PlainItem (code k) i w result }
 {
-    if k < OutputTy::LIST {
-        return Item::Num(w);
+    match k {
+        OutputTy::TyVar | OutputTy::Primitive => Item::Num(w),
+        OutputTy::Named => {
+            if i == 0 {
+                return Item::Num(w);
+            }
+            Item::Child(w)
+        }
+        _ => Item::Child(w),
     }
-    if k != OutputTy::NAMED {
-        return Item::Child(w);
-    }
-    if i == 0 {
-        return Item::Num(w);
-    }
-    Item::Child(w)
 }
 
 // Item i of a union or an intersection.
@@ -198,40 +164,35 @@ fn item_at(arena: &[u32], x: u32, i: u32) -> Item
     ensures { ItemAt arena.now x i result }
 {
     let k = kind(arena, x);
-    if k == OutputTy::ATTR_SET {
-        return set_item(arena, set_place(arena, x), i);
+    match k {
+        OutputTy::AttrSet => set_item(arena, set_place(arena, x), i),
+        OutputTy::Union | OutputTy::Intersection => list_item(arena, x, i),
+        _ => plain_item(k, i, word(arena, x, add(i, 1))),
     }
-    if k == OutputTy::UNION {
-        return list_item(arena, x, i);
-    }
-    if k == OutputTy::INTERSECTION {
-        return list_item(arena, x, i);
-    }
-    plain_item(k, i, word(arena, x, add(i, 1)))
 }
 
 // Two items, the first no child; an end comes first, a number before a child.
-fn compare_plain(a: Item, b: Item) -> Order
+fn compare_plain(a: Item, b: Item) -> Ordering
     ensures { Plainly a b result }
 {
     match a {
         Item::End => match b {
-            Item::End => Order::Equal,
-            Item::Num(_) => Order::Less,
-            Item::Child(_) => Order::Less,
+            Item::End => Ordering::Equal,
+            Item::Num(_) => Ordering::Less,
+            Item::Child(_) => Ordering::Less,
         },
         Item::Num(x) => match b {
-            Item::End => Order::Greater,
+            Item::End => Ordering::Greater,
             Item::Num(y) => compare_numbers(x, y),
-            Item::Child(_) => Order::Less,
+            Item::Child(_) => Ordering::Less,
         },
-        Item::Child(_) => Order::Greater,
+        Item::Child(_) => Ordering::Greater,
     }
 }
 
 // Item i of nodes a and b.
 #[cycle(compare_compare_item)]
-fn compare_item(arena: &[u32], a: u32, b: u32, i: u32) -> Order
+fn compare_item(arena: &[u32], a: u32, b: u32, i: u32) -> Ordering
     ensures { ComparedAt arena.now a b i result }
 {
     let s = item_at(arena, a, i);
@@ -240,14 +201,14 @@ fn compare_item(arena: &[u32], a: u32, b: u32, i: u32) -> Order
         Item::End => compare_plain(s, t),
         Item::Num(_) => compare_plain(s, t),
         Item::Child(x) => match t {
-            Item::End => Order::Greater,
-            Item::Num(_) => Order::Greater,
+            Item::End => Ordering::Greater,
+            Item::Num(_) => Ordering::Greater,
             Item::Child(y) => {
                 if x == y {
-                    return Order::Equal;
+                    return Ordering::Equal;
                 }
                 if a <= x {
-                    return Order::Equal;
+                    return Ordering::Equal;
                 }
                 compare(arena, x, y)
             }
@@ -257,28 +218,22 @@ fn compare_item(arena: &[u32], a: u32, b: u32, i: u32) -> Order
 
 // OutputTy::cmp in the order of the rules: by kind, then item by item, children by this same order; a child has a smaller number.
 #[cycle(compare_compare_item)]
-pub fn compare(arena: &[u32], a: u32, b: u32) -> Order
+pub fn compare(arena: &[u32], a: u32, b: u32) -> Ordering
     ensures { Compared arena.now a b result }
 {
-    let j = kind(arena, a);
-    let k = kind(arena, b);
+    let j = kind(arena, a).number();
+    let k = kind(arena, b).number();
     if j != k {
         return compare_numbers(j, k);
     }
     let n = items(arena, a);
     let m = items(arena, b);
     let l = attrset::least(n, m);
-    let mut i = 0;
-    while i < l {
+    for i in 0..l {
         match compare_item(arena, a, b, i) {
-            Order::Equal => {
-                i += 1;
-            }
-            Order::Less => {
-                return Order::Less;
-            }
-            Order::Greater => {
-                return Order::Greater;
+            Ordering::Equal => {}
+            decided => {
+                return decided;
             }
         }
     }

@@ -1,39 +1,56 @@
 // TypeArena: node i is arena[arena[i]..arena[i + 1]], the number of its kind and then its contents. A new node's row is written after
 // the last one, compared with the rows of its bucket, and kept by a greater count or dropped by none.
-ghost use Rattle.lang_ty.specs.Nodes.{Word, Kind, Is, Count, Member, Same, RowIs, Hit, Sought, Kept, Interned, Fresh, Top, Written, Copied, Stored, Listed};
-ghost use Rattle.std.specs.Prelude.{[], ◌∷◌};
+ghost use Rattle.lang_ty.specs.Given.{given};
+ghost use Rattle.lang_ty.specs.Nodes.{code, Word, Kind, Is, Count, Member, Same, RowIs, Hit, Sought, Kept, Interned, Fresh, Top, Written, Copied, Stored, Listed};
+ghost use Rattle.std.specs.Prelude.{◌≡◌, ◌≤◌, [], ◌∷◌};
 ghost use Rattle.cells.specs.Part.{part};
 
 use crate::index;
 use cells::{add, at, get, place, put, set};
 use layout::ArenaSlice;
+use rules::Refusal;
 
-// The kinds, in OutputTy's order.
-#[derive(Clone, Copy)]
-pub struct OutputTy {}
+// The kinds, in OutputTy's order: a kind's number is the first word of its rows.
+#[derive(Clone, Copy, PartialEq, Eq)]
+pub enum OutputTy {
+    TyVar,
+    Primitive,
+    List,
+    Lambda,
+    AttrSet,
+    Union,
+    Intersection,
+    Named,
+    Neg,
+    Bottom,
+    Top,
+}
 
 impl OutputTy {
-    pub const TY_VAR: u32 = 0;
+    pub fn number(self) -> u32
+        ensures { result ≡ code self }
+    {
+        self as u32
+    }
 
-    pub const PRIMITIVE: u32 = 1;
-
-    pub const LIST: u32 = 2;
-
-    pub const LAMBDA: u32 = 3;
-
-    pub const ATTR_SET: u32 = 4;
-
-    pub const UNION: u32 = 5;
-
-    pub const INTERSECTION: u32 = 6;
-
-    pub const NAMED: u32 = 7;
-
-    pub const NEG: u32 = 8;
-
-    pub const BOTTOM: u32 = 9;
-
-    pub const TOP: u32 = 10;
+    // The kind whose number w is; a number past the last is Top, as the last is.
+    pub fn of_word(w: u32) -> Self
+        ensures { (w ≤ 10 → code result ≡ w) × (10 ≤ w → code result ≡ 10) }
+    {
+        match w {
+            0 => OutputTy::TyVar,
+            1 => OutputTy::Primitive,
+            2 => OutputTy::List,
+            3 => OutputTy::Lambda,
+            4 => OutputTy::AttrSet,
+            5 => OutputTy::Union,
+            6 => OutputTy::Intersection,
+            7 => OutputTy::Named,
+            8 => OutputTy::Neg,
+            9 => OutputTy::Bottom,
+            _ => OutputTy::Top,
+        }
+    }
 }
 
 // What a pass counts: nodes, their cells, operations; and its marks.
@@ -54,13 +71,6 @@ impl Pass {
     pub const MEMBERS: u32 = 128;
 }
 
-// A node with the pass after it, or the number of a refusal.
-#[derive(Clone, Copy)]
-pub enum Given {
-    Node(u32, Pass),
-    Refused(u32),
-}
-
 // What a root is answered with: passes, operations of both, the sorted mark of either, the bailed mark of either, and the node.
 #[derive(Clone, Copy)]
 pub struct Shown {
@@ -71,12 +81,6 @@ pub struct Shown {
     pub node: u32,
 }
 
-#[derive(Clone, Copy)]
-pub enum Found {
-    At(u32),
-    Nowhere,
-}
-
 // The word i of node x.
 pub fn word(arena: &[u32], x: u32, i: u32) -> u32
     ensures { Word arena.now x i result }
@@ -84,30 +88,26 @@ pub fn word(arena: &[u32], x: u32, i: u32) -> u32
     get(arena, place(at(arena, x), i))
 }
 
-pub fn kind(arena: &[u32], x: u32) -> u32
-    ensures { Kind arena.now x result }
+pub fn kind(arena: &[u32], x: u32) -> OutputTy
+    ensures { Kind arena.now x (code result) }
 {
-    word(arena, x, 0)
+    OutputTy::of_word(word(arena, x, 0))
 }
 
-pub fn is(arena: &[u32], k: u32, x: u32) -> bool
-    ensures { Is arena.now k x result }
+pub fn is(arena: &[u32], k: OutputTy, x: u32) -> bool
+    ensures { Is arena.now (code k) x result }
 {
-    kind(arena, x) == k
+    word(arena, x, 0) == k.number()
 }
 
 // How many members a union or an intersection has; a node of another kind has none.
 pub fn count(arena: &[u32], x: u32) -> u32
     ensures { Count arena.now x result }
 {
-    let k = kind(arena, x);
-    if k == OutputTy::UNION {
-        return word(arena, x, 1);
+    match kind(arena, x) {
+        OutputTy::Union | OutputTy::Intersection => word(arena, x, 1),
+        _ => 0,
     }
-    if k == OutputTy::INTERSECTION {
-        return word(arena, x, 1);
-    }
-    0
 }
 
 // Member i of a union or an intersection.
@@ -121,12 +121,10 @@ pub fn member(arena: &[u32], x: u32, i: u32) -> u32
 fn same(words: &[u32], a: u32, b: u32, n: u32) -> bool
     ensures { Same words.now a b n result }
 {
-    let mut i = 0;
-    while i < n {
+    for i in 0..n {
         if get(words, place(a, i)) != get(words, place(b, i)) {
             return false;
         }
-        i += 1;
     }
     true
 }
@@ -137,76 +135,64 @@ fn row_is(arena: &[u32], i: u32, top: u32, len: u32) -> bool
 {
     let a = at(arena, i);
     let e = get(arena, place(i, 1));
-    if e != add(a, len) {
-        return false;
-    }
-    same(arena, top, a, len)
+    e == add(a, len) && same(arena, top, a, len)
 }
 
 // Whether row x is the len words from top on, whose hash is h.
 fn hit(arena: &[u32], x: u32, h: u32, top: u32, len: u32) -> bool
     ensures { Hit arena.now x h top len result }
 {
-    if get(arena, place(ArenaSlice::HASHES, x)) != h {
-        return false;
-    }
-    row_is(arena, x, top, len)
+    get(arena, place(ArenaSlice::HASHES, x)) == h && row_is(arena, x, top, len)
 }
 
 // The node whose row is the len words from top on, whose hash is h: the links of its bucket are followed. They fall; one that does not ends the
 // search, so that it ends in any slice. p is a link as it was read, a place of the slice: nothing stands between one link and the next.
-fn find(arena: &[u32], h: u32, top: u32, len: u32) -> Found
+fn find(arena: &[u32], h: u32, top: u32, len: u32) -> Option<u32>
     ensures { Sought arena.now h top len result }
 {
     let mut p = index::newest(arena, h) as usize;
     while ArenaSlice::EARLIER as usize <= p {
         let x = (p - ArenaSlice::EARLIER as usize) as u32;
         if hit(arena, x, h, top, len) {
-            return Found::At(x);
+            return Some(x);
         }
         let e = get(arena, p) as usize;
         if p <= e {
-            return Found::Nowhere;
+            return None;
         }
         p = e;
     }
-    Found::Nowhere
+    None
 }
 
 // The new row, whose hash is h, as the next node, with its cells.
-fn keep(arena: &mut [u32], q: Pass, h: u32, end: u32, cells: u32) -> Given
-    ensures { Kept arena.old q h end cells arena.new result }
+fn keep(arena: &mut [u32], q: &mut Pass, h: u32, end: u32, cells: u32) -> Result<u32, Refusal>
+    ensures { Kept arena.old q.old h end cells arena.new (given result q.new) }
 {
     let n = q.nodes;
     if Pass::NODES <= n {
-        return Given::Refused(8);
+        return Err(Refusal::Nodes);
     }
     let sum = add(q.cells, cells);
     if Pass::CELLS < sum {
-        return Given::Refused(9);
+        return Err(Refusal::Cells);
     }
     put(arena, place(n, 1), end);
     index::link(arena, h, n);
-    let r = Pass {
-        nodes: n + 1,
-        cells: sum,
-        ops: q.ops,
-        sorted: q.sorted,
-        bailed: q.bailed,
-    };
-    Given::Node(n, r)
+    q.nodes = n + 1;
+    q.cells = sum;
+    Ok(n)
 }
 
 // TypeArena::intern: the node whose row is the len words after the last row: the number of the one that is there, or the next.
-pub fn intern(arena: &mut [u32], q: Pass, len: u32, cells: u32) -> Given
-    ensures { Interned arena.old q len cells arena.new result }
+pub fn intern(arena: &mut [u32], q: &mut Pass, len: u32, cells: u32) -> Result<u32, Refusal>
+    ensures { Interned arena.old q.old len cells arena.new (given result q.new) }
 {
-    let n = q.nodes;
-    let top = at(arena, n);
+    let top = at(arena, q.nodes);
     let h = index::hash(arena, top, len);
     match find(arena, h, top, len) {
-        Found::At(i) => Given::Node(i, q),
-        Found::Nowhere => keep(arena, q, h, add(top, len), cells),
+        Some(i) => Ok(i),
+        None => keep(arena, q, h, add(top, len), cells),
     }
 }
 
@@ -219,11 +205,10 @@ pub fn fresh(arena: &mut [u32])
 }
 
 // The first word that no row has.
-pub fn top(arena: &[u32], q: Pass) -> u32
-    ensures { Top arena.now q result }
+pub fn top(arena: &[u32], q: &Pass) -> u32
+    ensures { Top arena.now q.now result }
 {
-    let n = q.nodes;
-    at(arena, n)
+    at(arena, q.nodes)
 }
 
 // Two numbers, written from t on.
@@ -235,39 +220,51 @@ fn write_two(words: &mut [u32], t: u32, a: u32, b: u32)
 }
 
 // A node of its kind alone: Bottom or Top.
-pub fn store_leaf(arena: &mut [u32], q: Pass, kind: u32) -> Given
-    ensures { Stored (kind ∷ []) 0 arena.old q arena.new result }
+pub fn store_leaf(arena: &mut [u32], q: &mut Pass, kind: OutputTy) -> Result<u32, Refusal>
+    ensures { Stored (code kind ∷ []) 0 arena.old q.old arena.new (given result q.new) }
 {
     let t = top(arena, q);
-    set(arena, t, kind);
+    set(arena, t, kind.number());
     intern(arena, q, 1, 0)
 }
 
 // A node of a kind and one number: a variable, a primitive, a list, a negation.
-pub fn store_one(arena: &mut [u32], q: Pass, kind: u32, a: u32) -> Given
-    ensures { Stored (kind ∷ a ∷ []) 0 arena.old q arena.new result }
+pub fn store_one(arena: &mut [u32], q: &mut Pass, kind: OutputTy, a: u32) -> Result<u32, Refusal>
+    ensures { Stored (code kind ∷ a ∷ []) 0 arena.old q.old arena.new (given result q.new) }
 {
     let t = top(arena, q);
-    write_two(arena, t, kind, a);
+    write_two(arena, t, kind.number(), a);
     intern(arena, q, 2, 0)
 }
 
 // A node of a kind and two numbers: a function, a named type.
-pub fn store_two(arena: &mut [u32], q: Pass, kind: u32, a: u32, b: u32) -> Given
-    ensures { Stored (kind ∷ a ∷ b ∷ []) 0 arena.old q arena.new result }
+pub fn store_two(
+    arena: &mut [u32],
+    q: &mut Pass,
+    kind: OutputTy,
+    a: u32,
+    b: u32,
+) -> Result<u32, Refusal>
+    ensures { Stored (code kind ∷ a ∷ b ∷ []) 0 arena.old q.old arena.new (given result q.new) }
 {
     let t = top(arena, q);
-    write_two(arena, t, kind, a);
+    write_two(arena, t, kind.number(), a);
     put(arena, place(t, 2), b);
     intern(arena, q, 3, 0)
 }
 
 // A union or an intersection of two members.
-pub fn store_both(arena: &mut [u32], q: Pass, kind: u32, a: u32, b: u32) -> Given
-    ensures { Stored (kind ∷ 2 ∷ a ∷ b ∷ []) 2 arena.old q arena.new result }
+pub fn store_both(
+    arena: &mut [u32],
+    q: &mut Pass,
+    kind: OutputTy,
+    a: u32,
+    b: u32,
+) -> Result<u32, Refusal>
+    ensures { Stored (code kind ∷ 2 ∷ a ∷ b ∷ []) 2 arena.old q.old arena.new (given result q.new) }
 {
     let t = top(arena, q);
-    write_two(arena, t, kind, 2);
+    write_two(arena, t, kind.number(), 2);
     write_two(arena, add(t, 2), a, b);
     intern(arena, q, 4, 2)
 }
@@ -283,22 +280,27 @@ fn copy_one(words: &mut [u32], t: u32, from: &[u32], a: u32, i: u32)
 pub fn copy(words: &mut [u32], t: u32, from: &[u32], a: u32, n: u32)
     ensures { Written t words.old words.new (part from.now a n) }
 {
-    let mut i = 0;
-    while i < n {
+    for i in 0..n {
         copy_one(words, t, from, a, i);
-        i += 1;
     }
 }
 
 // A union or an intersection of the n numbers from a on in another slice; 7 where they are too many.
-pub fn store_list(arena: &mut [u32], q: Pass, kind: u32, from: &[u32], a: u32, n: u32) -> Given
-    ensures { Listed kind from.now a n arena.old q arena.new result }
+pub fn store_list(
+    arena: &mut [u32],
+    q: &mut Pass,
+    kind: OutputTy,
+    from: &[u32],
+    a: u32,
+    n: u32,
+) -> Result<u32, Refusal>
+    ensures { Listed (code kind) from.now a n arena.old q.old arena.new (given result q.new) }
 {
     if Pass::MEMBERS < n {
-        return Given::Refused(7);
+        return Err(Refusal::Members);
     }
     let t = top(arena, q);
-    write_two(arena, t, kind, n);
+    write_two(arena, t, kind.number(), n);
     copy(arena, add(t, 2), from, a, n);
     intern(arena, q, n + 2, n)
 }

@@ -111,10 +111,7 @@ pub fn keys_from(words: &[u32], ks: Keys, step: u32, k: u32) -> Keys
 pub fn starts(words: &[u32], ks: Keys, k: u32) -> bool
     ensures { Starts words.now ks k result }
 {
-    if ks.left == 0 {
-        return false;
-    }
-    at(words, ks.at) == k
+    ks.left != 0 && at(words, ks.at) == k
 }
 
 // The keys that are left but for the first.
@@ -171,7 +168,7 @@ fn walked(words: &[u32], w: Walk, k: u32) -> Walk
 pub fn least(a: u32, b: u32) -> u32
     ensures { Least a b result }
 {
-    if a < b { a } else { b }
+    a.min(b)
 }
 
 // How many of the first n fields of two sets have the same keys. Sets that are compared are often alike at first, and who asks for no more than
@@ -182,10 +179,7 @@ fn alike_fields(words: &[u32], a: u32, b: u32, n: u32) -> u32
     let p = place(a, 1);
     let q = place(b, 1);
     let e = place(n, n);
-    if words.len() < p + e {
-        return 0;
-    }
-    if words.len() < q + e {
+    if words.len() < p + e || words.len() < q + e {
         return 0;
     }
     let mut i = 0;

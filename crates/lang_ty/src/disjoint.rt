@@ -1,4 +1,5 @@
 // Constructor-shape disjointness.
+ghost use Rattle.lang_ty.specs.Nodes.{code};
 ghost use Rattle.lang_ty.specs.Shapes.{SetPlace, Lacks, Apart, Constructor, SameDisjoint, Disjoint};
 
 use crate::arena::OutputTy;
@@ -16,50 +17,40 @@ pub fn set_place(arena: &[u32], x: u32) -> u32
 fn lacks(words: &[u32], a: u32, b: u32) -> bool
     ensures { Lacks words.now a b result }
 {
-    if attrset::open(words, a) != 0 {
-        return false;
-    }
-    !attrset::fields_cover(words, b, a)
+    attrset::open(words, a) == 0 && !attrset::fields_cover(words, b, a)
 }
 
 fn primitives_disjoint(a: u32, b: u32) -> bool
     ensures { Apart a b result }
 {
-    if a == b {
-        return false;
-    }
-    if primitive::is_subtype_of(a, b) {
-        return false;
-    }
-    !primitive::is_subtype_of(b, a)
+    !(a == b || primitive::is_subtype_of(a, b) || primitive::is_subtype_of(b, a))
 }
 
 // A kind whose constructor is known: a primitive, a list, a lambda or a set.
-pub fn is_constructor(k: u32) -> bool
-    ensures { Constructor k result }
+pub fn is_constructor(k: OutputTy) -> bool
+    ensures { Constructor (code k) result }
 {
-    if k < OutputTy::PRIMITIVE {
-        return false;
+    match k {
+        OutputTy::Primitive | OutputTy::List | OutputTy::Lambda | OutputTy::AttrSet => true,
+        _ => false,
     }
-    k <= OutputTy::ATTR_SET
 }
 
 // Two nodes of one constructor.
-fn same_disjoint(arena: &[u32], k: u32, a: u32, b: u32) -> bool
-    ensures { SameDisjoint arena.now k a b result }
+fn same_disjoint(arena: &[u32], k: OutputTy, a: u32, b: u32) -> bool
+    ensures { SameDisjoint arena.now (code k) a b result }
 {
-    if k == OutputTy::PRIMITIVE {
-        return primitives_disjoint(arena::word(arena, a, 1), arena::word(arena, b, 1));
+    match k {
+        OutputTy::Primitive => {
+            primitives_disjoint(arena::word(arena, a, 1), arena::word(arena, b, 1))
+        }
+        OutputTy::AttrSet => {
+            let s = set_place(arena, a);
+            let t = set_place(arena, b);
+            lacks(arena, s, t) || lacks(arena, t, s)
+        }
+        _ => false,
     }
-    if k != OutputTy::ATTR_SET {
-        return false;
-    }
-    let s = set_place(arena, a);
-    let t = set_place(arena, b);
-    if lacks(arena, s, t) {
-        return true;
-    }
-    lacks(arena, t, s)
 }
 
 // are_output_types_disjoint with are_shapes_disjoint; functor is the number of the name `__functor`.
@@ -68,26 +59,21 @@ pub fn are_shapes_disjoint(arena: &[u32], functor: u32, a: u32, b: u32) -> bool
 {
     let j = arena::kind(arena, a);
     let k = arena::kind(arena, b);
-    if !is_constructor(j) {
+    if !is_constructor(j) || !is_constructor(k) {
         return false;
     }
-    if !is_constructor(k) {
-        return false;
-    }
-    if j == k {
+    if j.number() == k.number() {
         return same_disjoint(arena, j, a, b);
     }
-    if j == OutputTy::ATTR_SET {
-        if k == OutputTy::LAMBDA {
-            return !attrset::has_field(arena, set_place(arena, a), functor);
-        }
-        return true;
+    match j {
+        OutputTy::AttrSet => match k {
+            OutputTy::Lambda => !attrset::has_field(arena, set_place(arena, a), functor),
+            _ => true,
+        },
+        OutputTy::Lambda => match k {
+            OutputTy::AttrSet => !attrset::has_field(arena, set_place(arena, b), functor),
+            _ => true,
+        },
+        _ => true,
     }
-    if j != OutputTy::LAMBDA {
-        return true;
-    }
-    if k != OutputTy::ATTR_SET {
-        return true;
-    }
-    !attrset::has_field(arena, set_place(arena, b), functor)
 }

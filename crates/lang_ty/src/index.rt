@@ -17,10 +17,8 @@ pub fn hash(words: &[u32], a: u32, n: u32) -> u32
     ensures { Hashed words.now a n result }
 {
     let mut h = 0;
-    let mut i = 0;
-    while i < n {
+    for i in 0..n {
         h = mixed(h, get(words, place(a, i)));
-        i += 1;
     }
     h
 }

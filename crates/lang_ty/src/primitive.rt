@@ -5,8 +5,5 @@ ghost use Rattle.lang_ty.specs.Shapes.{Subtype};
 pub fn is_subtype_of(a: u32, b: u32) -> bool
     ensures { Subtype a b result }
 {
-    if b != 2 {
-        return false;
-    }
-    a < 2
+    b == 2 && a < 2
 }

@@ -40,7 +40,7 @@ arena_length = 57601
 abbrev pub line_length : ℕ
 line_length = 65536
 
--- what a pass works with: keys from 0 on, polarity bits, ids seen, a negation's counters, what it remembers of each node, lists held
+-- what a pass works with: keys from 0 on, polarity bits, ids seen, two cells that nothing uses, what a negation remembers of each node, lists held
 abbrev pub bits_at : ℕ
 bits_at = 4096
 

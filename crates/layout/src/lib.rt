@@ -44,8 +44,8 @@ impl ArenaSlice {
     pub const LINE: usize = 65536;
 }
 
-// What a pass works with: a key for each id and polarity, polarity bits, marks of ids seen, a negation's counters, for each node what a negation
-// remembers of it, and lists held on the way.
+// What a pass works with: a key for each id and polarity, polarity bits, marks of ids seen, two cells that nothing uses, for each node what a
+// negation remembers of it, and lists held on the way.
 #[derive(Clone, Copy)]
 pub struct WorkSlice {}
 

@@ -1,7 +1,7 @@
 // Links from each entry of a table to every id in it, held in the working slice, so that chains of bounds and children can be followed backwards.
 #![tactic(auto)]
 
-ghost use Rattle.std.specs.Prelude.{[], ◌∷◌};
+ghost use Rattle.std.specs.Prelude.{◌≡◌, [], ◌∷◌};
 ghost use Rattle.links.specs.Links.{LinksTo, LinksEach, LinksList, LinksBounds, LinksSet, LinksEntry, LinksAll};
 
 use cells::{add, at, get, place, put};
@@ -23,67 +23,91 @@ fn link(work: &mut [u32], n: u32, x: u32, y: u32) -> u32
     e
 }
 
-// Links from x to each of the k ids that stand from a on, step cells apart.
-fn link_each(table: &[u32], work: &mut [u32], n: u32, x: u32, a: u32, step: u32, k: u32) -> u32
-    ensures { LinksEach table.now work.old n x a step k work.new result }
-{
-    let mut e = n;
-    let mut p = a;
-    let mut i = 0;
-    while i < k {
-        e = link(work, e, x, at(table, p));
-        p = add(p, step);
-        i += 1;
+// The links so far: the slice that holds them, and how many there are.
+#[derive(Drop)]
+struct Chains<'a> {
+    work: &'a mut [u32],
+    n: u32,
+}
+
+impl<'a> Chains<'a> {
+    fn add(&mut self, x: u32, y: u32)
+        ensures same { self.new.work.ghost_name ≡ self.old.work.ghost_name }
+        ensures made { LinksTo self.old.work.now self.old.n x (y ∷ []) self.new.work.now self.new.n }
+    {
+        self.n = link(self.work, self.n, x, y);
     }
-    e
-}
 
-// Links from x to the ids of the list at a: their number stands there, and they after it.
-fn link_list(table: &[u32], work: &mut [u32], n: u32, x: u32, a: u32) -> u32
-    ensures { LinksList table.now work.old n x a work.new result }
-{
-    link_each(table, work, n, x, add(a, 1), 1, at(table, a))
-}
+    // Links from x to each of the k ids that stand from a on, step cells apart.
+    fn add_each(&mut self, table: &[u32], x: u32, a: u32, step: u32, k: u32)
+        ensures same { self.new.work.ghost_name ≡ self.old.work.ghost_name }
+        ensures made { LinksEach table.now self.old.work.now self.old.n x a step k self.new.work.now self.new.n }
+    {
+        let mut p = a;
+        for i in 0..k {
+            self.add(x, at(table, p));
+            p = add(p, step);
+        }
+    }
 
-// Links from a variable to its bounds.
-fn link_bounds(table: &[u32], work: &mut [u32], n: u32, x: u32, v: u32) -> u32
-    ensures { LinksBounds table.now work.old n x v work.new result }
-{
-    let e = link_list(table, work, n, x, v);
-    link_list(table, work, e, x, entries::uppers(table, v))
-}
+    // Links from x to the ids of the list at a: their number stands there, and they after it.
+    fn add_list(&mut self, table: &[u32], x: u32, a: u32)
+        ensures same { self.new.work.ghost_name ≡ self.old.work.ghost_name }
+        ensures made { LinksList table.now self.old.work.now self.old.n x a self.new.work.now self.new.n }
+    {
+        self.add_each(table, x, add(a, 1), 1, at(table, a));
+    }
 
-// Links from a set to its fields' types and its dyn.
-fn link_set(table: &[u32], work: &mut [u32], n: u32, x: u32, a: u32) -> u32
-    ensures { LinksSet table.now work.old n x a work.new result }
-{
-    let e = link_each(table, work, n, x, add(a, 2), 2, attrset::fields(table, a));
-    link_list(table, work, e, x, attrset::dyn_place(table, a))
-}
+    // Links from a variable to its bounds.
+    fn add_bounds(&mut self, table: &[u32], x: u32, v: u32)
+        ensures same { self.new.work.ghost_name ≡ self.old.work.ghost_name }
+        ensures made { LinksBounds table.now self.old.work.now self.old.n x v self.new.work.now self.new.n }
+    {
+        self.add_list(table, x, v);
+        self.add_list(table, x, entries::uppers(table, v));
+    }
 
-fn link_two(work: &mut [u32], n: u32, x: u32, y: u32, z: u32) -> u32
-    ensures { LinksTo work.old n x (y ∷ z ∷ []) work.new result }
-{
-    let e = link(work, n, x, y);
-    link(work, e, x, z)
-}
+    // Links from a set to its fields' types and its dyn.
+    fn add_set(&mut self, table: &[u32], x: u32, a: u32)
+        ensures same { self.new.work.ghost_name ≡ self.old.work.ghost_name }
+        ensures made { LinksSet table.now self.old.work.now self.old.n x a self.new.work.now self.new.n }
+    {
+        self.add_each(table, x, add(a, 2), 2, attrset::fields(table, a));
+        self.add_list(table, x, attrset::dyn_place(table, a));
+    }
 
-// Links from entry x to every id in it.
-fn link_entry(table: &[u32], work: &mut [u32], c: Canon, n: u32, x: u32) -> u32
-    ensures { LinksEntry table.now work.old c n x work.new result }
-{
-    match entries::entry_at(table, c, x) {
-        Entry::Variable(v) => link_bounds(table, work, n, x, v),
-        Entry::Primitive(_) => n,
-        Entry::TyVar(_) => n,
-        Entry::List(y) => link(work, n, x, y),
-        Entry::Lambda(y, z) => link_two(work, n, x, y, z),
-        Entry::AttrSet(a) => link_set(table, work, n, x, a),
-        Entry::Neg(y) => link(work, n, x, y),
-        Entry::Named(_, y) => link(work, n, x, y),
-        Entry::Inter(y, z) => link_two(work, n, x, y, z),
-        Entry::Union(y, z) => link_two(work, n, x, y, z),
-        Entry::Frozen => n,
+    fn add_two(&mut self, x: u32, y: u32, z: u32)
+        ensures same { self.new.work.ghost_name ≡ self.old.work.ghost_name }
+        ensures made { LinksTo self.old.work.now self.old.n x (y ∷ z ∷ []) self.new.work.now self.new.n }
+    {
+        self.add(x, y);
+        self.add(x, z);
+    }
+
+    // Links from entry x to every id in it.
+    fn add_entry(&mut self, table: &[u32], c: Canon, x: u32)
+        ensures same { self.new.work.ghost_name ≡ self.old.work.ghost_name }
+        ensures made { LinksEntry table.now self.old.work.now c self.old.n x self.new.work.now self.new.n }
+    {
+        match entries::entry_at(table, c, x) {
+            Entry::Variable(v) => self.add_bounds(table, x, v),
+            Entry::Primitive(_) | Entry::TyVar(_) | Entry::Frozen => {}
+            Entry::List(y) | Entry::Neg(y) | Entry::Named(_, y) => self.add(x, y),
+            Entry::Lambda(y, z) | Entry::Inter(y, z) | Entry::Union(y, z) => self.add_two(x, y, z),
+            Entry::AttrSet(a) => self.add_set(table, x, a),
+        }
+    }
+
+    // The links of every entry.
+    fn of_all(table: &[u32], work: &'a mut [u32], c: Canon) -> Chains<'a>
+        ensures same { result.work.ghost_name ≡ work.entry.ghost_name }
+        ensures made { LinksAll table.now work.old c result.work.now result.n }
+    {
+        let mut chains = Chains { work, n: 0 };
+        for x in 0..c.count {
+            chains.add_entry(table, c, x);
+        }
+        chains
     }
 }
 
@@ -91,12 +115,6 @@ fn link_entry(table: &[u32], work: &mut [u32], c: Canon, n: u32, x: u32) -> u32
 pub fn link_all(table: &[u32], work: &mut [u32], c: Canon) -> u32
     ensures { LinksAll table.now work.old c work.new result }
 {
-    let count = c.count;
-    let mut n = 0;
-    let mut x = 0;
-    while x < count {
-        n = link_entry(table, work, c, n, x);
-        x += 1;
-    }
-    n
+    let chains = Chains::of_all(table, work, c);
+    chains.n
 }

@@ -162,20 +162,18 @@ module _ {w : List ℕ} {q : Pass} {ns : List Node} {x : ℕ} (h : Arena w q ns)
       let y : p ≡ suc (suc (cell w x)) = omega arith in
       ap₂ {C = List ℕ} (part w) y c ∙ (holds_tail (holds_tail (holds_list row (h.rows x lt)))).is
 
-contents_none : (f : ℕ → ℕ) (v : ℕ) (n : Node) → (kind_of n ≡ 0 → ⊥) → (kind_of n ≡ 1 → ⊥) → (kind_of n ≡ 2 → ⊥) → (kind_of n ≡ 8 → ⊥) → (kind_of n ≡ 3 → ⊥)
-    → (kind_of n ≡ 7 → ⊥)
-    → (kind_of n ≡ 4 → ⊥) → (kind_of n ≡ 5 → ⊥) → (kind_of n ≡ 6 → ⊥) → [] ≡ contents_text (renumber f (with_variable (λ _. v) n))
-contents_none f v (TyVar x) h₀ h₁ h₂ h₈ h₃ h₇ h₄ h₅ h₆ = absurd (h₀ refl)
-contents_none f v (Primitive c) h₀ h₁ h₂ h₈ h₃ h₇ h₄ h₅ h₆ = absurd (h₁ refl)
-contents_none f v (ListOf a) h₀ h₁ h₂ h₈ h₃ h₇ h₄ h₅ h₆ = absurd (h₂ refl)
-contents_none f v (Lambda a b) h₀ h₁ h₂ h₈ h₃ h₇ h₄ h₅ h₆ = absurd (h₃ refl)
-contents_none f v (AttrSet t) h₀ h₁ h₂ h₈ h₃ h₇ h₄ h₅ h₆ = absurd (h₄ refl)
-contents_none f v (Union ms) h₀ h₁ h₂ h₈ h₃ h₇ h₄ h₅ h₆ = absurd (h₅ refl)
-contents_none f v (Intersection ms) h₀ h₁ h₂ h₈ h₃ h₇ h₄ h₅ h₆ = absurd (h₆ refl)
-contents_none f v (Named n a) h₀ h₁ h₂ h₈ h₃ h₇ h₄ h₅ h₆ = absurd (h₇ refl)
-contents_none f v (Neg a) h₀ h₁ h₂ h₈ h₃ h₇ h₄ h₅ h₆ = absurd (h₈ refl)
-contents_none f v Bottom h₀ h₁ h₂ h₈ h₃ h₇ h₄ h₅ h₆ = refl
-contents_none f v Top h₀ h₁ h₂ h₈ h₃ h₇ h₄ h₅ h₆ = refl
+contents_none : (f : ℕ → ℕ) (v : ℕ) (n : Node) → 8 < kind_of n → [] ≡ contents_text (renumber f (with_variable (λ _. v) n))
+contents_none f v (TyVar x) h = absurd (omega arith)
+contents_none f v (Primitive c) h = absurd (omega arith)
+contents_none f v (ListOf a) h = absurd (omega arith)
+contents_none f v (Lambda a b) h = absurd (omega arith)
+contents_none f v (AttrSet t) h = absurd (omega arith)
+contents_none f v (Union ms) h = absurd (omega arith)
+contents_none f v (Intersection ms) h = absurd (omega arith)
+contents_none f v (Named n a) h = absurd (omega arith)
+contents_none f v (Neg a) h = absurd (omega arith)
+contents_none f v Bottom h = refl
+contents_none f v Top h = refl
 
 -- a node's contents, v for its variable
 abbrev shown_text : List ℕ → ℕ → Node → List ℕ
@@ -250,11 +248,6 @@ module _ {arena work : List ℕ} {x k v : ℕ} (kd : Kind arena x k) where
         wrote_as (g.is (set_at_lem ar lt f s)) (ap (shown_text work v) (node_of (node_at ns x) 4 f));
   }
 
-  pub contents_empty : {p : ℕ} {o : List ℕ} → (k ≡ 0 → ⊥) → (k ≡ 1 → ⊥) → (k ≡ 2 → ⊥) → (k ≡ 8 → ⊥) → (k ≡ 3 → ⊥) → (k ≡ 7 → ⊥) → (k ≡ 4 → ⊥) → (k ≡ 5 → ⊥)
-      → (k ≡ 6 → ⊥)
-      → WroteContents arena work x v p o o p
-  contents_empty {p} {o} h₀ h₁ h₂ h₈ h₃ h₇ h₄ h₅ h₆ = as_node (wrote_none p o)
-      (λ q ns ar lt f.
-      contents_none (number_of work) v (node_at ns x)
-      (λ e. h₀ (sym f ∙ e)) (λ e. h₁ (sym f ∙ e)) (λ e. h₂ (sym f ∙ e)) (λ e. h₈ (sym f ∙ e)) (λ e. h₃ (sym f ∙ e))
-      (λ e. h₇ (sym f ∙ e)) (λ e. h₄ (sym f ∙ e)) (λ e. h₅ (sym f ∙ e)) (λ e. h₆ (sym f ∙ e)))
+  pub contents_empty : {p : ℕ} {o : List ℕ} → 8 < k → WroteContents arena work x v p o o p
+  contents_empty {p} {o} h = as_node (wrote_none p o)
+      (λ q ns ar lt f. contents_none (number_of work) v (node_at ns x) (omega arith))

@@ -7,7 +7,7 @@ use mathlib.Core.Bool.{Bool}
 use mathlib.Core.List.{List, [], ◌∷◌, ◌++◌, map, append_assoc}
 use lib.ListN.{length, get_or}
 use borrow.Author.Tests.{eq-eqb, ne_eqb}
-use Rattle.cells.specs.Part.{if, run, cell, part}
+use Rattle.cells.specs.Part.{if, run, cell}
 use Rattle.cells.proofs.Parts.{run_length, run_snoc}
 use Rattle.rules.specs.Text.{tab, comma, colon, dash, parted, decimal, list_text, keyed_text}
 use Rattle.rules.specs.Table.{Field, Attr, field_keys, field_types}
@@ -16,7 +16,7 @@ use Rattle.rules.specs.Listing.{renumber_field}
 use Rattle.lang_ty.specs.Sets.{SetAt, Fields, Key, FieldType}
 use Rattle.listing.specs.Writes.{Wrote}
 use Rattle.listing.specs.Walks.{number_of}
-use Rattle.listing.specs.Printed.{parted_by, numbered, WroteList, WroteFields}
+use Rattle.listing.specs.Printed.{parted_by, WroteNumbers, WroteList, WroteFields}
 use Rattle.listing.proofs.Texts.{wrote_none, wrote_more, wrote_as}
 
 -- what stands before an element
@@ -58,48 +58,49 @@ map_run : {A : Type 0} (g : ℕ → A) (f : ℕ → ℕ) (a n : ℕ) → map g (
 map_run g f a zero = refl
 map_run g f a (suc n) = ap (λ (l : List _). g (f a) ∷ l) (map_run g f (suc a) n)
 
--- i of the n elements from a on are written, by what is written of each cell
-pub record Listing (g : ℕ → List ℕ) (w : List ℕ) (a n p : ℕ) (o o' : List ℕ) (r i : ℕ) : Type 0 where
-  pub few : i ≤ n
-  pub kept : length o' ≡ length o
-  pub so : Wrote (begun (run (λ (j : ℕ). g (cell w j)) a i)) p o o' r
+-- counted from a on
+run_from : {A : Type 0} (f : ℕ → A) (a b c n : ℕ) → a + b ≡ c → run (λ (j : ℕ). f (a + j)) b n ≡ run f c n
+run_from f a b c zero e = refl
+run_from {A} f a b c (suc n) e = ap₂ {C = List A} ◌∷◌ (ap f e) (run_from f a (suc b) (suc c) n (omega arith))
 
-pub listing_start : {g : ℕ → List ℕ} {w : List ℕ} {a n p : ℕ} {o : List ℕ} → Listing g w a n p o o p 0
-listing_start {p = p} {o = o} = record { few = omega arith; kept = refl; so = wrote_none p o }
+-- i numbers of n are written
+pub record NumbersWritten (Fits : ℕ → ℕ → Type 0) (n i p : ℕ) (o o' : List ℕ) (r : ℕ) : Type 0 where
+  pub so : (f : ℕ → ℕ) → ((j v : ℕ) → j < n → Fits j v → v ≡ f j) → Wrote (begun (run (λ (j : ℕ). decimal (f j)) 0 i)) p o o' r
 
-module _ {g : ℕ → List ℕ} {w : List ℕ} {a n p q i : ℕ} {o o₁ : List ℕ} (l : Listing g w a n p o o₁ q i) where
-  more : {k v r s : ℕ} {o₂ o₃ : List ℕ} {t : List ℕ} → i < n → Wrote (parted_by i ∷ []) q o₁ o₂ s → k ≡ a + i → v ≡ cell w k → t ≡ g v → length o₃ ≡ length o₁
-      → Wrote t s o₂ o₃ r → Listing g w a n p o o₃ r (i + 1)
-  more lt b e f h len c = record {
-    few = omega arith;
-    kept = len ∙ l.kept;
-    so = element (λ (j : ℕ). g (cell w j)) a i l.so (wrote_as (wrote_more b c) (ap (λ (u : List ℕ). parted_by i ∷ u) (h ∙ ap g (f ∙ ap (cell w) e))));
+pub numbers_start : {Fits : ℕ → ℕ → Type 0} {n p : ℕ} {o : List ℕ} → NumbersWritten Fits n 0 p o o p
+numbers_start {p = p} {o = o} = record { so = λ f h. wrote_none p o }
+
+module _ {Fits : ℕ → ℕ → Type 0} {n p q i : ℕ} {o o₁ : List ℕ} (l : NumbersWritten Fits n i p o o₁ q) where
+  pub numbers_more : {v r s : ℕ} {o₂ o₃ : List ℕ} → i < n → Wrote (parted_by i ∷ []) q o₁ o₂ s → Fits i v → Wrote (decimal v) s o₂ o₃ r
+      → NumbersWritten Fits n (i + 1) p o o₃ r
+  numbers_more {v} lt b e c = record {
+    so = λ f h.
+        let here : i ≡ 0 + i = omega arith in
+        element (λ (j : ℕ). decimal (f j)) 0 i (l.so f h)
+        (wrote_as (wrote_more b c) (ap (λ (k : ℕ). parted_by i ∷ decimal k) (h i v lt e) ∙ ap (λ (j : ℕ). parted_by i ∷ decimal (f j)) here));
   }
 
-  pub listing_done : n ≤ i → (n ≡ 0 → ⊥) → WroteList g w a n p o o₁ q
-  listing_done le ne = record {
-    is =
-        let z : i ≡ n = let y = l.few in omega arith in
-        let f : ℕ → List ℕ = λ (j : ℕ). g (cell w j) in
-        wrote_as l.so
-        (ap (λ (k : ℕ). begun (run f a k)) z
-        ∙ begun_done (run f a n) (let y = run_length f a n in omega arith)
-        ∙ ap (λ (ps : List (List ℕ)). tab ∷ list_text ps) (sym (map_run g (cell w) a n)));
+  pub numbers_done : n ≤ i → i ≤ n → (n ≡ 0 → ⊥) → WroteNumbers Fits n p o o₁ q
+  numbers_done low high ne = record {
+    is = λ f h.
+        let z : i ≡ n = omega arith in
+        let g : ℕ → List ℕ = λ (j : ℕ). decimal (f j) in
+        wrote_as (l.so f h) (ap (λ (k : ℕ). begun (run g 0 k)) z ∙ begun_done (run g 0 n) (let y = run_length g 0 n in omega arith));
   }
 
--- a key, and a node by its number
-pub keys_more : {w : List ℕ} {a n p q i k v r s : ℕ} {o o₁ o₂ o₃ : List ℕ} → Listing decimal w a n p o o₁ q i → i < n → Wrote (parted_by i ∷ []) q o₁ o₂ s
-    → k ≡ a + i
-    → v ≡ cell w k → length o₃ ≡ length o₁ → Wrote (decimal v) s o₂ o₃ r → Listing decimal w a n p o o₃ r (i + 1)
-keys_more l lt b e f len c = more l lt b e f refl len c
+pub numbers_none : {Fits : ℕ → ℕ → Type 0} {n p r : ℕ} {o o' : List ℕ} → n ≡ 0 → Wrote (tab ∷ dash) p o o' r → WroteNumbers Fits n p o o' r
+numbers_none e c = record { is = λ f h. wrote_as c (ap (λ (k : ℕ). tab ∷ list_text (run (λ (j : ℕ). decimal (f j)) 0 k)) (sym e)) }
 
-pub nodes_more : {w : List ℕ} (work : List ℕ) {a n p q i k v m r s : ℕ} {o o₁ o₂ o₃ : List ℕ} → Listing (numbered work) w a n p o o₁ q i → i < n
-    → Wrote (parted_by i ∷ []) q o₁ o₂ s
-    → k ≡ a + i → v ≡ cell w k → m ≡ number_of work v → length o₃ ≡ length o₁ → Wrote (decimal m) s o₂ o₃ r → Listing (numbered work) w a n p o o₃ r (i + 1)
-nodes_more work l lt b e f h len c = more l lt b e f (ap decimal h) len c
-
-pub list_none : {g : ℕ → List ℕ} {w : List ℕ} {a n p r : ℕ} {o o' : List ℕ} → n ≡ 0 → Wrote (tab ∷ dash) p o o' r → WroteList g w a n p o o' r
-list_none {g} {w} {a} e c = record { is = wrote_as c (ap (λ (k : ℕ). tab ∷ list_text (map g (part w a k))) (sym e)) }
+-- the numbers are what k makes of the cells from a on
+pub numbers_listed : (k : ℕ → ℕ) (w : List ℕ) (a : ℕ) {Fits : ℕ → ℕ → Type 0} {n p r : ℕ} {o o' : List ℕ}
+    → ((i v : ℕ) → i < n → Fits i v → v ≡ k (cell w (a + i))) → WroteNumbers Fits n p o o' r → WroteList (λ (y : ℕ). decimal (k y)) w a n p o o' r
+numbers_listed k w a {n = n} h c =
+    let g : ℕ → List ℕ = λ (y : ℕ). decimal (k y) in
+    let here : a + 0 ≡ a = omega arith in
+    record {
+      is = wrote_as (c.is (λ (i : ℕ). k (cell w (a + i))) h)
+          (ap (λ (ps : List (List ℕ)). tab ∷ list_text ps) (run_from (λ (j : ℕ). g (cell w j)) a 0 a n here ∙ sym (map_run g (cell w) a n)));
+    }
 
 -- the text of field j
 abbrev field_piece : List ℕ → List Field → ℕ → List ℕ
@@ -113,22 +114,15 @@ pieces_all : (work : List ℕ) (fs : List Field) → run (field_piece work fs) 0
 pieces_all work [] = refl
 pieces_all work (f ∷ fs) = ap (λ (l : List (List ℕ)). field_piece work (f ∷ fs) 0 ∷ l) (run_later (field_piece work (f ∷ fs)) 0 (length fs) ∙ pieces_all work fs)
 
--- i of the n fields are written
-pub record FieldsWritten (w work : List ℕ) (a n p : ℕ) (o o' : List ℕ) (r i : ℕ) : Type 0 where
-  pub few : i ≤ n
-  pub kept : length o' ≡ length o
+-- i fields are written
+pub record FieldsWritten (w work : List ℕ) (a i p : ℕ) (o o' : List ℕ) (r : ℕ) : Type 0 where
   pub so : {t : Attr} → SetAt w a t → Wrote (begun (run (field_piece work t.fields) 0 i)) p o o' r
 
-pub fields_start : {w work : List ℕ} {a n p : ℕ} {o : List ℕ} → FieldsWritten w work a n p o o p 0
-fields_start {p = p} {o = o} = record { few = omega arith; kept = refl; so = λ h. wrote_none p o }
-
-module _ {w work : List ℕ} {a n p q i : ℕ} {o o₁ : List ℕ} (l : FieldsWritten w work a n p o o₁ q i) (c : Fields w a n) where
+module _ {w work : List ℕ} {a n p q i : ℕ} {o o₁ : List ℕ} (l : FieldsWritten w work a i p o o₁ q) (c : Fields w a n) where
   pub fields_more : {k v m s₁ s₂ s₃ r : ℕ} {o₂ o₃ o₄ o₅ : List ℕ} → i < n → Wrote (parted_by i ∷ []) q o₁ o₂ s₁ → Key w a i k → Wrote (decimal k) s₁ o₂ o₃ s₂
-      → Wrote (58 ∷ []) s₂ o₃ o₄ s₃ → FieldType w a i v → m ≡ number_of work v → length o₅ ≡ length o₁ → Wrote (decimal m) s₃ o₄ o₅ r
-      → FieldsWritten w work a n p o o₅ r (i + 1)
-  fields_more {k} {v} {m} lt b key d e ty f len g = record {
-    few = omega arith;
-    kept = len ∙ l.kept;
+      → Wrote (58 ∷ []) s₂ o₃ o₄ s₃ → FieldType w a i v → m ≡ number_of work v → Wrote (decimal m) s₃ o₄ o₅ r
+      → FieldsWritten w work a (i + 1) p o o₅ r
+  fields_more {k} {v} {m} lt b key d e ty f g = record {
     so = λ {t} h.
         let n-is : n ≡ length t.fields = c.is h in
         let here : i ≡ 0 + i = omega arith in
@@ -140,11 +134,11 @@ module _ {w work : List ℕ} {a n p q i : ℕ} {o o₁ : List ℕ} (l : FieldsWr
         ∙ ap (λ (j : ℕ). parted_by i ∷ field_piece work t.fields j) here));
   }
 
-  pub fields_done : n ≤ i → (n ≡ 0 → ⊥) → WroteFields w work a p o o₁ q
-  fields_done le ne = record {
+  pub fields_done : n ≤ i → i ≤ n → (n ≡ 0 → ⊥) → WroteFields w work a p o o₁ q
+  fields_done le few ne = record {
     is = λ {t} h.
         let n-is : n ≡ length t.fields = c.is h in
-        let z : i ≡ length t.fields = let y = l.few in omega arith in
+        let z : i ≡ length t.fields = omega arith in
         let f = field_piece work t.fields in
         wrote_as (l.so h)
         (ap (λ (k : ℕ). begun (run f 0 k)) z

@@ -35,7 +35,7 @@ use Rattle.lang_ty.specs.Nodes.{Arena, Word, Kind, shown_of}
 use Rattle.listing.specs.Writes.{Wrote, WroteKeyword}
 use Rattle.listing.specs.Walks.{order_at, number_of, Numbered, Walks}
 use Rattle.listing.specs.Printed.{head_line, contents_text, WroteContents, vars_before, shown_variable, ShowsVariable, CountsVariable, WroteNode, WroteNodes, WroteRoot}
-use Rattle.listing.proofs.Texts.{wrote_none, wrote_more, wrote_as}
+use Rattle.listing.proofs.Texts.{wrote_more, wrote_as}
 use Rattle.listing.proofs.Heads.{line_tabbed}
 use Rattle.listing.proofs.Walking.{Known, reached_known}
 use Rattle.listing.proofs.Numbering.{rooted, number_is}
@@ -267,22 +267,15 @@ module _ {arena work : List ℕ} {k before y kind : ℕ} (at : y ≡ cell work (
   }
 
 -- the lines of the first k nodes are written, among them so many variables'
-pub record NodesWritten (arena work : List ℕ) (form : Form) (n p : ℕ) (o o' : List ℕ) (r vars k : ℕ) : Type 0 where
-  pub few : k ≤ n
-  pub kept : length o' ≡ length o
+pub record NodesWritten (arena work : List ℕ) (form : Form) (n vars k p : ℕ) (o o' : List ℕ) (r : ℕ) : Type 0 where
   pub counted : {q : Pass} {ns : List Node} {x : ℕ} → Arena arena q ns → x < length ns → Numbered work (suc x) (walk ns x) n → vars ≡ vars_before ns x k
   pub so : {q : Pass} {ns : List Node} {x : ℕ} → Arena arena q ns → x < length ns → Numbered work (suc x) (walk ns x) n
       → Wrote (node_texts (nodes_in form ns x) (walk ns x) 0 (take k (walk ns x))) p o o' r
 
-pub nodes_start : {arena work : List ℕ} {form : Form} {n p : ℕ} {o : List ℕ} → NodesWritten arena work form n p o o p 0 0
-nodes_start {p = p} {o = o} = record { few = omega arith; kept = refl; counted = λ ar lt nb. refl; so = λ ar lt nb. wrote_none p o }
-
-module _ {arena work : List ℕ} {form : Form} {n p q vars k : ℕ} {o o₁ : List ℕ} (l : NodesWritten arena work form n p o o₁ q vars k) where
-  pub node_lines_more : {r next : ℕ} {o₂ : List ℕ} → k < n → length o₂ ≡ length o₁ → WroteNode arena work form k vars q o₁ o₂ r → CountsVariable arena work k vars next
-      → NodesWritten arena work form n p o o₂ r next (k + 1)
-  node_lines_more lt len w v = record {
-    few = omega arith;
-    kept = len ∙ l.kept;
+module _ {arena work : List ℕ} {form : Form} {n p q vars k : ℕ} {o o₁ : List ℕ} (l : NodesWritten arena work form n vars k p o o₁ q) where
+  pub node_lines_more : {r next : ℕ} {o₂ : List ℕ} → k < n → WroteNode arena work form k vars q o₁ o₂ r → CountsVariable arena work k vars next
+      → NodesWritten arena work form n next (k + 1) p o o₂ r
+  node_lines_more lt w v = record {
     counted = λ {q} {ns} {x} ar b nb. v.is ar b nb lt (l.counted ar b nb);
     so = λ {q} {ns} {x} ar b nb.
         let c = nb.count in

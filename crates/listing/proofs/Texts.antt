@@ -4,15 +4,15 @@ use mathlib.Core.Path.{◌≡◌, refl, sym, ap, subst, ◌∙◌}
 use Prim.Native.Nat.{ℕ, zero, suc, ◌+◌, ◌-◌, ◌*◌, ◌/◌, ◌%◌, ◌≤◌, ◌<◌}
 use native.Mathlib.Omega.{arith}
 use mathlib.Core.List.{List, [], ◌∷◌, ◌++◌, append-nil}
-use lib.ListN.{length, set, drop, length-append}
-use lib.Seq.{set-append_seam, append_snoc}
+use native.Mathlib.Numerals.{add-one}
+use lib.ListN.{length, set, take, drop, get_or, length-append}
+use lib.Seq.{set-append_seam, append_snoc, take-suc}
 use native.Mathlib.Nat.{not-suc-le-zero}
 use borrow.Author.Tests.{lt-ltb, le-ltb, eq-eqb, ne_eqb}
 use Rattle.cells.specs.Part.{if, cell, part}
 use Rattle.rules.specs.Text.{tab, decimal_by, decimal, field_text, a_sign}
-use Rattle.cells.proofs.Parts.{run_at, run_snoc}
+use Rattle.cells.proofs.Parts.{run_snoc}
 use Rattle.text.specs.Keywords.{Byte}
-use Rattle.text.proofs.Spans.{span_whole}
 use Rattle.listing.specs.Writes.{over, Wrote, WroteKeyword}
 use Rattle.laws.proofs.OldListing.{decimal_steps}
 
@@ -90,10 +90,6 @@ pub decimal_two : {n p q r : ℕ} {o o₁ o₂ : List ℕ} → 10 ≤ n → Wrot
     → Wrote (decimal n) p o o₂ r
 decimal_two h a b = wrote_as (wrote_more a b) (decimal_more h)
 
--- one byte before a text
-pub wrote_then : {b p q r : ℕ} {u o o₁ o₂ : List ℕ} → Wrote (b ∷ []) p o o₁ q → Wrote u q o₁ o₂ r → Wrote (b ∷ u) p o o₂ r
-wrote_then a b = wrote_more a b
-
 pub sign_plus : {s p q r : ℕ} {o o₁ o₂ : List ℕ} → s ≡ 0 → Wrote (9 ∷ []) p o o₁ q → Wrote (43 ∷ []) q o₁ o₂ r → Wrote (tab ∷ field_text a_sign (s ∷ [])) p o o₂ r
 unfolding field_text
 sign_plus {s} h a b = wrote_as (wrote_more a b) (simp (eq-eqb s 0 h))
@@ -103,30 +99,17 @@ pub sign_minus : {s p q r : ℕ} {o o₁ o₂ : List ℕ} → (s ≡ 0 → ⊥) 
 unfolding field_text
 sign_minus {s} h a b = wrote_as (wrote_more a b) (simp (ne_eqb s 0 h))
 
--- of the n bytes of w from a on, the first k are written
-pub record Wording (w : List ℕ) (a n p : ℕ) (o o' : List ℕ) (r k : ℕ) : Type 0 where
-  pub few : k ≤ n
-  pub kept : length o' ≡ length o
-  pub so : Wrote (part w a k) p o o' r
+-- the first k bytes of w are written, and of a keyword's
+pub word_more : (w : List ℕ) (k : ℕ) {p q r : ℕ} {o o₁ o₂ : List ℕ} → Wrote (take k w) p o o₁ q → k < length w → Wrote (get_or w k 0 ∷ []) q o₁ o₂ r
+    → Wrote (take (k + 1) w) p o o₂ r
+word_more w k a lt b = wrote_as (wrote_more a b) (sym (ap (λ (j : ℕ). take j w) (add-one k) ∙ take-suc w k 0 lt))
 
-pub wording_start : {w : List ℕ} {a n p : ℕ} {o : List ℕ} → Wording w a n p o o p 0
-wording_start {w} {a} {n} {p} {o} = record { few = omega arith; kept = refl; so = wrote_none p o }
+pub part_more : (w : List ℕ) (a k : ℕ) {p q x r : ℕ} {o o₁ o₂ : List ℕ} → Wrote (part w a k) p o o₁ q → Byte w (a + k) x → Wrote (x ∷ []) q o₁ o₂ r
+    → Wrote (part w a (k + 1)) p o o₂ r
+part_more w a k l y b =
+    wrote_as (wrote_more l b)
+    (ap (λ (z : ℕ). part w a k ++ (z ∷ [])) y.is ∙ sym (run_snoc (cell w) a k) ∙ ap (part w a) (sym (add-one k)))
 
-module _ {w : List ℕ} {a n p q k : ℕ} {o o₁ : List ℕ} (l : Wording w a n p o o₁ q k) where
-  pub wording_more : {x r : ℕ} {o₂ : List ℕ} → k < n → length o₂ ≡ length o₁ → Byte w (a + k) x → Wrote (x ∷ []) q o₁ o₂ r → Wording w a n p o o₂ r (k + 1)
-  wording_more {x} h e y b = record {
-    few = omega arith;
-    kept = e ∙ l.kept;
-    so =
-        wrote_as (wrote_more l.so b)
-        (ap (λ (z : ℕ). part w a k ++ (z ∷ [])) y.is ∙ sym (run_snoc (cell w) a k) ∙ run_at (cell w) a a (suc k) (k + 1) refl (omega arith));
-  }
-
-  pub wording_done : n ≤ k → Wrote (part w a n) p o o₁ q
-  wording_done h = let f = l.few in let e : k ≡ n = omega arith in wrote_as l.so (ap (part w a) e)
-
-pub word_is : {w : List ℕ} {p r : ℕ} {o o' : List ℕ} → Wrote (part w 0 (length w)) p o o' r → Wrote w p o o' r
-word_is {w} h = wrote_as h (run_at (cell w) 0 0 (length w) (length w - 0) refl (omega arith) ∙ span_whole w)
-
-pub keyword_is : {b : List ℕ} {i n p r : ℕ} {o o' : List ℕ} → Byte b (17 * i) n → Wrote (part b (17 * i + 1) n) p o o' r → WroteKeyword b i p o o' r
-keyword_is {b} {i} y h = record { is = wrote_as h (ap (part b (17 * i + 1)) y.is) }
+pub keyword_done : (b : List ℕ) (i n k : ℕ) {p r : ℕ} {o o' : List ℕ} → Wrote (part b (17 * i + 1) k) p o o' r → n ≤ k → k ≤ n → Byte b (17 * i) n
+    → WroteKeyword b i p o o' r
+keyword_done b i n k h low high y = let e : k ≡ n = omega arith in record { is = wrote_as h (ap (part b (17 * i + 1)) (e ∙ y.is)) }

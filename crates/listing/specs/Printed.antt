@@ -1,6 +1,6 @@
 -- What the functions of lines.rt ensure: the rules' lines, written.
 use Rattle.std.specs.Prelude.{◌≡◌, ℕ, suc, ◌+◌, ◌≤◌, ◌<◌, List, [], ◌∷◌, ◌++◌, map, length, get_or, take, drop, eqb}
-use Rattle.cells.specs.Part.{if, cell, part}
+use Rattle.cells.specs.Part.{if, run, cell, part}
 use Rattle.layout.specs.Layout.{work_length}
 use Rattle.rules.specs.Plain.{flag, position}
 use Rattle.rules.specs.Text.{tab, comma, decimal, list_text, keyed_text, shape_texts, no_kind}
@@ -43,6 +43,10 @@ contents_text n = tabbed (shape_texts (get_or node_kinds (kind_of n) no_kind).sh
 -- a node by its number
 abbrev pub numbered : List ℕ → ℕ → List ℕ
 numbered work y = decimal (number_of work y)
+
+-- n numbers, if the number at each place is one of those that fit there
+pub record WroteNumbers (Fits : ℕ → ℕ → Type 0) (n p : ℕ) (o o' : List ℕ) (r : ℕ) : Type 0 where
+  pub is : (f : ℕ → ℕ) → ((i v : ℕ) → i < n → Fits i v → v ≡ f i) → Wrote (tab ∷ list_text (run (λ (i : ℕ). decimal (f i)) 0 n)) p o o' r
 
 -- the n cells from a on, each as f writes it
 pub record WroteList (f : ℕ → List ℕ) (w : List ℕ) (a n p : ℕ) (o o' : List ℕ) (r : ℕ) : Type 0 where

@@ -6,3 +6,4 @@ pub mod walk;
 pub mod write;
 
 pub use crate::lines::{answers, refused_call, refused_root, root_lines};
+pub use crate::write::Writer;

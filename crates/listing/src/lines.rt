@@ -1,15 +1,15 @@
 // The lines of a listing.
 ghost use Rattle.std.specs.Prelude.{◌≡◌, [], ◌∷◌};
-ghost use Rattle.rules.specs.Plain.{ascii, flag};
+ghost use Rattle.rules.specs.Plain.{ascii};
 ghost use Rattle.rules.specs.Text.{tab, dash, decimal, line_text};
 ghost use Rattle.rules.specs.Canonicalizer.{refused_with};
 ghost use Rattle.rules.specs.Listing.{numbered_text, answers_text, answer_text};
-ghost use Rattle.listing.specs.Writes.{Wrote};
-ghost use Rattle.listing.specs.Printed.{tabbed, count_texts, head_line, parted_by, numbered, WroteList, WroteFields, WroteSet, WroteContents};
+ghost use Rattle.listing.specs.Writes.{Writes, Wrote};
+ghost use Rattle.listing.specs.Printed.{tabbed, count_texts, head_line, parted_by, numbered, WroteNumbers, WroteList, WroteFields, WroteSet, WroteContents};
 ghost use Rattle.listing.specs.Printed.{ShowsVariable, CountsVariable, WroteNode, WroteNodes, WroteRoot};
 
 use crate::walk;
-use crate::write::{byte, decimal, keyword, number_field, sign_field, word};
+use crate::write::Writer;
 use cells::{add, get, place};
 use lang_ty::arena::{OutputTy, Shown};
 use lang_ty::disjoint::set_place;
@@ -18,201 +18,173 @@ use rules::Form;
 use text::kinds::{HEADS, NODES};
 
 // `numbered`, on a line of its own, if the variables are.
-fn numbered(out: &mut [u8], at: u32, form: Form) -> u32
-    ensures { Wrote (numbered_text form) at out.old out.new result }
+fn numbered(w: &mut Writer, form: Form)
+    ensures { Writes (Wrote (numbered_text form)) w.old w.new }
 {
     match form {
-        Form::Plain => at,
-        Form::Numbered => word(out, at, b"numbered\n"),
+        Form::Plain => {}
+        Form::Numbered => w.word(b"numbered\n"),
     }
 }
 
 // `answers`, root count; then `numbered`, if the variables are.
-pub fn answers(out: &mut [u8], at: u32, form: Form, roots: u32) -> u32
-    ensures { Wrote (answers_text form roots) at out.old out.new result }
+pub fn answers(w: &mut Writer, form: Form, roots: u32)
+    ensures { Writes (Wrote (answers_text form roots)) w.old w.new }
 {
-    let p = keyword(out, at, &HEADS, 0);
-    let p = number_field(out, p, roots);
-    let p = byte(out, p, 10);
-    numbered(out, p, form)
+    w.keyword(&HEADS, 0);
+    w.number_field(roots);
+    w.byte(b'\n');
+    numbered(w, form);
 }
 
 // `refused`, number, line.
-pub fn refused_call(out: &mut [u8], at: u32, number: u32, line: u32) -> u32
-    ensures { Wrote (line_text (ascii "refused" ∷ decimal number ∷ decimal line ∷ [])) at out.old out.new result }
+pub fn refused_call(w: &mut Writer, number: u32, line: u32)
+    ensures { Writes (Wrote (line_text (ascii "refused" ∷ decimal number ∷ decimal line ∷ []))) w.old w.new }
 {
-    let p = keyword(out, at, &HEADS, 2);
-    let p = number_field(out, p, number);
-    let p = number_field(out, p, line);
-    byte(out, p, 10)
+    w.keyword(&HEADS, 2);
+    w.number_field(number);
+    w.number_field(line);
+    w.byte(b'\n');
 }
 
 // `refused`, id, sign, number.
-pub fn refused_root(out: &mut [u8], at: u32, id: u32, sign: u32, number: u32) -> u32
-    ensures { Wrote (answer_text id sign (refused_with number)) at out.old out.new result }
+pub fn refused_root(w: &mut Writer, id: u32, sign: u32, number: u32)
+    ensures { Writes (Wrote (answer_text id sign (refused_with number))) w.old w.new }
 {
-    let p = keyword(out, at, &HEADS, 2);
-    let p = number_field(out, p, id);
-    let p = sign_field(out, p, sign);
-    let p = number_field(out, p, number);
-    byte(out, p, 10)
-}
-
-fn flag(b: bool) -> u32
-    ensures { result ≡ flag b }
-{
-    if b { 1 } else { 0 }
+    w.keyword(&HEADS, 2);
+    w.number_field(id);
+    w.sign_field(sign);
+    w.number_field(number);
+    w.byte(b'\n');
 }
 
 // Passes, operations, sorted, bailed, node count.
-fn counts(out: &mut [u8], at: u32, s: Shown, n: u32) -> u32
-    ensures { Wrote (tabbed (count_texts s n)) at out.old out.new result }
+fn counts(w: &mut Writer, s: Shown, n: u32)
+    ensures { Writes (Wrote (tabbed (count_texts s n))) w.old w.new }
 {
-    let p = number_field(out, at, s.passes);
-    let p = number_field(out, p, s.ops);
-    let p = number_field(out, p, flag(s.sorted));
-    let p = number_field(out, p, flag(s.bailed));
-    number_field(out, p, n)
+    w.number_field(s.passes);
+    w.number_field(s.ops);
+    w.number_field(u32::from(s.sorted));
+    w.number_field(u32::from(s.bailed));
+    w.number_field(n);
 }
 
 // `root`, id, sign, and the counts.
-fn root_line(out: &mut [u8], at: u32, id: u32, sign: u32, s: Shown, n: u32) -> u32
-    ensures { Wrote (head_line id sign s n) at out.old out.new result }
+fn root_line(w: &mut Writer, id: u32, sign: u32, s: Shown, n: u32)
+    ensures { Writes (Wrote (head_line id sign s n)) w.old w.new }
 {
-    let p = keyword(out, at, &HEADS, 1);
-    let p = number_field(out, p, id);
-    let p = sign_field(out, p, sign);
-    let p = counts(out, p, s, n);
-    byte(out, p, 10)
+    w.keyword(&HEADS, 1);
+    w.number_field(id);
+    w.sign_field(sign);
+    counts(w, s, n);
+    w.byte(b'\n');
 }
 
 // Before element i of a list: a tab, or the comma that parts it from the one before.
-fn before(out: &mut [u8], at: u32, i: u32) -> u32
-    ensures { Wrote (parted_by i ∷ []) at out.old out.new result }
+fn before(w: &mut Writer, i: u32)
+    ensures { Writes (Wrote (parted_by i ∷ [])) w.old w.new }
 {
     if i == 0 {
-        return byte(out, at, 9);
+        w.byte(b'\t');
+    } else {
+        w.byte(b',');
     }
-    byte(out, at, 44)
 }
 
 // A tab and `-`, an empty list.
-fn no_list(out: &mut [u8], at: u32) -> u32
-    ensures { Wrote (tab ∷ dash) at out.old out.new result }
+fn no_list(w: &mut Writer)
+    ensures { Writes (Wrote (tab ∷ dash)) w.old w.new }
 {
-    word(out, at, b"\x09-")
+    w.word(b"\t-");
+}
+
+// A tab and n numbers, each by its place.
+fn number_list<F: Fn(u32) -> u32>(w: &mut Writer, n: u32, number: F)
+    requires { F.IsAlwaysCallable number }
+    ensures { Writes (WroteNumbers (F.post number) n) w.old w.new }
+{
+    if n == 0 {
+        return no_list(w);
+    }
+    for i in 0..n {
+        before(w, i);
+        w.decimal(number(i));
+    }
 }
 
 // A tab and the n nodes from a on, by their numbers.
-fn node_list(out: &mut [u8], words: &[u32], work: &[u32], at: u32, a: u32, n: u32) -> u32
-    ensures { WroteList (numbered work.now) words.now a n at out.old out.new result }
+fn node_list(w: &mut Writer, words: &[u32], work: &[u32], a: u32, n: u32)
+    ensures { Writes (WroteList (numbered work.now) words.now a n) w.old w.new }
 {
-    if n == 0 {
-        return no_list(out, at);
-    }
-    let mut p = at;
-    let mut i = 0;
-    while i < n {
-        p = before(out, p, i);
-        p = decimal(out, p, walk::number(work, get(words, place(a, i))));
-        i += 1;
-    }
-    p
+    number_list(w, n, |i| walk::number(work, get(words, place(a, i))));
 }
 
 // A tab and the n keys from a on.
-fn key_list(out: &mut [u8], words: &[u32], at: u32, a: u32, n: u32) -> u32
-    ensures { WroteList decimal words.now a n at out.old out.new result }
+fn key_list(w: &mut Writer, words: &[u32], a: u32, n: u32)
+    ensures { Writes (WroteList decimal words.now a n) w.old w.new }
 {
-    if n == 0 {
-        return no_list(out, at);
-    }
-    let mut p = at;
-    let mut i = 0;
-    while i < n {
-        p = before(out, p, i);
-        p = decimal(out, p, get(words, place(a, i)));
-        i += 1;
-    }
-    p
+    number_list(w, n, |i| get(words, place(a, i)));
 }
 
-// A tab and the fields of the set at a, a key and a node each.
-fn field_list(out: &mut [u8], words: &[u32], work: &[u32], at: u32, a: u32) -> u32
-    ensures { WroteFields words.now work.now a at out.old out.new result }
+// A tab and the fields of the set at a, a key and a node each: two numbers, so no number_list.
+fn field_list(w: &mut Writer, words: &[u32], work: &[u32], a: u32)
+    ensures { Writes (WroteFields words.now work.now a) w.old w.new }
 {
     let n = attrset::fields(words, a);
     if n == 0 {
-        return no_list(out, at);
+        return no_list(w);
     }
-    let mut p = at;
-    let mut i = 0;
-    while i < n {
-        p = before(out, p, i);
-        p = decimal(out, p, attrset::key(words, a, i));
-        p = byte(out, p, 58);
-        p = decimal(out, p, walk::number(work, attrset::field_type(words, a, i)));
-        i += 1;
+    for i in 0..n {
+        before(w, i);
+        w.decimal(attrset::key(words, a, i));
+        w.byte(b':');
+        w.decimal(walk::number(work, attrset::field_type(words, a, i)));
     }
-    p
 }
 
 // Fields, dyn, open and optional keys of the set at a.
-fn set_contents(out: &mut [u8], words: &[u32], work: &[u32], at: u32, a: u32) -> u32
-    ensures { WroteSet words.now work.now a at out.old out.new result }
+fn set_contents(w: &mut Writer, words: &[u32], work: &[u32], a: u32)
+    ensures { Writes (WroteSet words.now work.now a) w.old w.new }
 {
-    let p = field_list(out, words, work, at, a);
+    field_list(w, words, work, a);
     let d = attrset::dyn_place(words, a);
-    let p = node_list(out, words, work, p, add(d, 1), attrset::dyns(words, a));
-    let p = number_field(out, p, attrset::open(words, a));
+    node_list(w, words, work, add(d, 1), attrset::dyns(words, a));
+    w.number_field(attrset::open(words, a));
     let o = attrset::open_place(words, a);
-    key_list(out, words, p, add(o, 2), attrset::optionals(words, a))
+    key_list(w, words, add(o, 2), attrset::optionals(words, a));
 }
 
 // A tab and node y, by its number.
-fn node_field(out: &mut [u8], work: &[u32], at: u32, y: u32) -> u32
-    ensures { Wrote (tab ∷ numbered work.now y) at out.old out.new result }
+fn node_field(w: &mut Writer, work: &[u32], y: u32)
+    ensures { Writes (Wrote (tab ∷ numbered work.now y)) w.old w.new }
 {
-    number_field(out, at, walk::number(work, y))
+    w.number_field(walk::number(work, y));
 }
 
 // What stands after the keyword of node x, with v for its variable, if it is one.
-fn contents(out: &mut [u8], arena: &[u32], work: &[u32], at: u32, x: u32, v: u32) -> u32
-    ensures { WroteContents arena.now work.now x v at out.old out.new result }
+fn contents(w: &mut Writer, arena: &[u32], work: &[u32], x: u32, v: u32)
+    ensures { Writes (WroteContents arena.now work.now x v) w.old w.new }
 {
-    let k = arena::kind(arena, x);
     let a = arena::word(arena, x, 1);
     let b = arena::word(arena, x, 2);
-    if k == OutputTy::TY_VAR {
-        return number_field(out, at, v);
+    match arena::kind(arena, x) {
+        OutputTy::TyVar => w.number_field(v),
+        OutputTy::Primitive => w.number_field(a),
+        OutputTy::List | OutputTy::Neg => node_field(w, work, a),
+        OutputTy::Lambda => {
+            node_field(w, work, a);
+            node_field(w, work, b);
+        }
+        OutputTy::Named => {
+            w.number_field(a);
+            node_field(w, work, b);
+        }
+        OutputTy::AttrSet => set_contents(w, arena, work, set_place(arena, x)),
+        OutputTy::Union | OutputTy::Intersection => {
+            node_list(w, arena, work, add(cells::at(arena, x), 2), a);
+        }
+        OutputTy::Bottom | OutputTy::Top => {}
     }
-    if k == OutputTy::PRIMITIVE {
-        return number_field(out, at, a);
-    }
-    if k == OutputTy::LIST {
-        return node_field(out, work, at, a);
-    }
-    if k == OutputTy::NEG {
-        return node_field(out, work, at, a);
-    }
-    if k == OutputTy::LAMBDA {
-        let p = node_field(out, work, at, a);
-        return node_field(out, work, p, b);
-    }
-    if k == OutputTy::NAMED {
-        let p = number_field(out, at, a);
-        return node_field(out, work, p, b);
-    }
-    if k == OutputTy::ATTR_SET {
-        return set_contents(out, arena, work, at, set_place(arena, x));
-    }
-    if k == OutputTy::UNION {
-        return node_list(out, arena, work, at, add(cells::at(arena, x), 2), a);
-    }
-    if k == OutputTy::INTERSECTION {
-        return node_list(out, arena, work, at, add(cells::at(arena, x), 2), a);
-    }
-    at
 }
 
 // What node x shows as its variable, if it is one: its own number, or how many variables stand before it (TypeArena::normalize_vars). Equal
@@ -230,61 +202,47 @@ fn shown_variable(arena: &[u32], form: Form, x: u32, before: u32) -> u32
 fn variables_after(arena: &[u32], work: &[u32], k: u32, before: u32) -> u32
     ensures { CountsVariable arena.now work.now k before result }
 {
-    if arena::kind(arena, walk::node(work, k)) == OutputTy::TY_VAR {
-        return add(before, 1);
+    match arena::kind(arena, walk::node(work, k)) {
+        OutputTy::TyVar => add(before, 1),
+        _ => before,
     }
-    before
 }
 
 // The line of node k of the listing, before which so many variables stand: number, kind, contents.
-fn node_line(
-    out: &mut [u8],
-    arena: &[u32],
-    work: &[u32],
-    at: u32,
-    form: Form,
-    k: u32,
-    before: u32,
-) -> u32
-    ensures { WroteNode arena.now work.now form k before at out.old out.new result }
+fn node_line(w: &mut Writer, arena: &[u32], work: &[u32], form: Form, k: u32, before: u32)
+    ensures { Writes (WroteNode arena.now work.now form k before) w.old w.new }
 {
     let x = walk::node(work, k);
-    let p = decimal(out, at, k);
-    let p = byte(out, p, 9);
-    let p = keyword(out, p, &NODES, arena::kind(arena, x));
-    let v = shown_variable(arena, form, x, before);
-    let p = contents(out, arena, work, p, x, v);
-    byte(out, p, 10)
+    w.decimal(k);
+    w.byte(b'\t');
+    w.keyword(&NODES, arena::kind(arena, x).number());
+    contents(w, arena, work, x, shown_variable(arena, form, x, before));
+    w.byte(b'\n');
 }
 
-fn node_lines(out: &mut [u8], arena: &[u32], work: &[u32], at: u32, form: Form, n: u32) -> u32
-    ensures { WroteNodes arena.now work.now form n at out.old out.new result }
+fn node_lines(w: &mut Writer, arena: &[u32], work: &[u32], form: Form, n: u32)
+    ensures { Writes (WroteNodes arena.now work.now form n) w.old w.new }
 {
-    let mut p = at;
     let mut vars = 0;
-    let mut k = 0;
-    while k < n {
-        p = node_line(out, arena, work, p, form, k, vars);
+    for k in 0..n {
+        node_line(w, arena, work, form, k, vars);
         vars = variables_after(arena, work, k, vars);
-        k += 1;
     }
-    p
 }
 
 // The lines of a root that is not refused, with its nodes, children first. The first 12,288 cells of work may be used.
 pub fn root_lines(
-    out: &mut [u8],
+    w: &mut Writer,
     arena: &[u32],
     work: &mut [u32],
-    at: u32,
     form: Form,
     id: u32,
     sign: u32,
     s: Shown,
-) -> u32
-    ensures { WroteRoot arena.now work.old form id sign s at out.old out.new result }
+)
+    ensures { Writes (WroteRoot arena.now work.old form id sign s) w.old w.new }
 {
     let n = walk::walk(arena, work, s.node);
-    let p = root_line(out, at, id, sign, s, n);
-    node_lines(out, arena, work, p, form, n)
+    root_line(w, id, sign, s, n);
+    node_lines(w, arena, work, form, n);
 }

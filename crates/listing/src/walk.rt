@@ -16,13 +16,11 @@ fn visit(arena: &[u32], work: &mut [u32], x: u32, k: u32) -> u32
     }
     let n = arc_ty::children(arena, x);
     let mut next = k;
-    let mut i = 0;
-    while i < n {
+    for i in 0..n {
         let c = arc_ty::child(arena, x, i);
         if c < x {
             next = visit(arena, work, c, next);
         }
-        i += 1;
     }
     put(work, place(WalkSlice::ORDER, next), x);
     next = add(next, 1);
@@ -49,6 +47,5 @@ pub fn node(work: &[u32], k: u32) -> u32
 pub fn number(work: &[u32], x: u32) -> u32
     ensures { result ≡ number_of work.now x }
 {
-    let n = at(work, x);
-    if n == 0 { 0 } else { n - 1 }
+    at(work, x).saturating_sub(1)
 }

@@ -1,12 +1,18 @@
-// Text into a lent slice: a byte is put where the slice reaches, and the position goes on past its end.
-ghost use Rattle.std.specs.Prelude.{◌≡◌, [], ◌∷◌, ◌+◌, ◌<◌, ◌^◌, set};
-ghost use Rattle.cells.specs.Part.{part};
+// Text into a lent slice.
+ghost use Rattle.std.specs.Prelude.{◌≡◌, [], ◌∷◌, set};
 ghost use Rattle.rules.specs.Text.{tab, decimal, field_text, a_sign};
-ghost use Rattle.listing.specs.Writes.{Wrote, WroteKeyword};
+ghost use Rattle.listing.specs.Writes.{Writes, Wrote, WroteKeyword};
 
-use cells::add;
 use text::kinds;
 
+// A slice, and the position of the next byte: a byte is put where the slice reaches, and the position goes on past its end.
+#[derive(Drop)]
+pub struct Writer<'a> {
+    pub out: &'a mut [u8],
+    pub at: u32,
+}
+
+// Not by `get_mut`: of its None the proof does not learn that nothing changed.
 fn put(out: &mut [u8], i: usize, b: u8)
     ensures { out.new ≡ set out.old i b }
 {
@@ -15,69 +21,64 @@ fn put(out: &mut [u8], i: usize, b: u8)
     }
 }
 
-// The position after it; the greatest number is its own.
-pub fn byte(out: &mut [u8], at: u32, b: u8) -> u32
-    ensures { Wrote (b ∷ []) at out.old out.new result }
-{
-    put(out, at as usize, b);
-    add(at, 1)
-}
-
-// The n bytes of w from a on.
-fn part(out: &mut [u8], at: u32, w: &[u8], a: usize, n: usize) -> u32
-    requires { a + n < 2 ^ 64 }
-    ensures { Wrote (part w.now a n) at out.old out.new result }
-{
-    let mut p = at;
-    let mut k = 0;
-    while k < n {
-        p = byte(out, p, kinds::at(w, a + k));
-        k += 1;
+impl Writer<'_> {
+    // After the greatest position comes that position again.
+    pub fn byte(&mut self, b: u8)
+        ensures { Writes (Wrote (b ∷ [])) self.old self.new }
+    {
+        put(self.out, self.at as usize, b);
+        self.at = self.at.saturating_add(1);
     }
-    p
-}
 
-// The bytes of w.
-pub fn word(out: &mut [u8], at: u32, w: &[u8]) -> u32
-    ensures { Wrote w.now at out.old out.new result }
-{
-    part(out, at, w, 0, w.len())
-}
-
-// The keyword of kind i.
-pub fn keyword(out: &mut [u8], at: u32, kinds: &[u8], i: u32) -> u32
-    ensures { WroteKeyword kinds.now i at out.old out.new result }
-{
-    let a = 17 * i as usize;
-    part(out, at, kinds, a + 1, kinds::at(kinds, a) as usize)
-}
-
-// n in decimal.
-pub fn decimal(out: &mut [u8], at: u32, n: u32) -> u32
-    ensures { Wrote (decimal n) at out.old out.new result }
-{
-    if n < 10 {
-        return byte(out, at, (48 + n) as u8);
+    // The bytes of w.
+    pub fn word(&mut self, w: &[u8])
+        ensures { Writes (Wrote w.now) self.old self.new }
+    {
+        for b in w {
+            self.byte(*b);
+        }
     }
-    let p = decimal(out, at, n / 10);
-    byte(out, p, (48 + n % 10) as u8)
-}
 
-// A tab and n.
-pub fn number_field(out: &mut [u8], at: u32, n: u32) -> u32
-    ensures { Wrote (tab ∷ decimal n) at out.old out.new result }
-{
-    let p = byte(out, at, 9);
-    decimal(out, p, n)
-}
-
-// A tab and the sign: 0 is `+`.
-pub fn sign_field(out: &mut [u8], at: u32, sign: u32) -> u32
-    ensures { Wrote (tab ∷ field_text a_sign (sign ∷ [])) at out.old out.new result }
-{
-    let p = byte(out, at, 9);
-    if sign == 0 {
-        return byte(out, p, 43);
+    // The keyword of kind i.
+    pub fn keyword(&mut self, kinds: &[u8], i: u32)
+        ensures { Writes (WroteKeyword kinds.now i) self.old self.new }
+    {
+        let a = 17 * i as usize;
+        let n = kinds::at(kinds, a) as usize;
+        for k in 0..n {
+            self.byte(kinds::at(kinds, a + 1 + k));
+        }
     }
-    byte(out, p, 45)
+
+    // n in decimal.
+    pub fn decimal(&mut self, n: u32)
+        ensures { Writes (Wrote (decimal n)) self.old self.new }
+    {
+        if n < 10 {
+            self.byte(b'0' + n as u8);
+        } else {
+            self.decimal(n / 10);
+            self.byte(b'0' + (n % 10) as u8);
+        }
+    }
+
+    // A tab and n.
+    pub fn number_field(&mut self, n: u32)
+        ensures { Writes (Wrote (tab ∷ decimal n)) self.old self.new }
+    {
+        self.byte(b'\t');
+        self.decimal(n);
+    }
+
+    // A tab and the sign, the number that the call or the table has: 0 is `+`.
+    pub fn sign_field(&mut self, sign: u32)
+        ensures { Writes (Wrote (tab ∷ field_text a_sign (sign ∷ []))) self.old self.new }
+    {
+        self.byte(b'\t');
+        if sign == 0 {
+            self.byte(b'+');
+        } else {
+            self.byte(b'-');
+        }
+    }
 }

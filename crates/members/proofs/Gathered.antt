@@ -1,7 +1,7 @@
 -- Members gathered one after another, sifted by a test, searched, and put together. Assumes nothing.
 use mathlib.Core.Path.{◌≡◌, refl, sym, ap, ap₂, ◌∙◌, subst}
 use mathlib.Core.Bool.{Bool, true, false, not, ◌||◌, not-not}
-use mathlib.Core.Logic.{⊎_elim}
+use mathlib.Core.Logic.{◌⊎◌, ⊎_elim}
 use Prim.Native.Nat.{ℕ, suc, ◌+◌, ◌-◌, ◌≤◌, ◌<◌}
 use native.Mathlib.Omega.{arith}
 use native.Mathlib.Nat.{eq-zero-or-pos}
@@ -9,8 +9,8 @@ use native.Mathlib.Numerals.{add-one}
 use mathlib.Core.List.{List, [], ◌∷◌, ◌++◌, append-nil}
 use lib.ListN.{length, get_or, take, drop, set, replicate, length-set, length-append, length-replicate}
 use lib.Seq.{get_or-set_same, get_or-set_other, take_all, take-suc, length-take-le}
-use lib.Dec.{eqb}
-use borrow.Author.Tests.{eq-eqb, ne_eqb, le-ltb, lt-ltb}
+use lib.Dec.{eqb, leb}
+use borrow.Author.Tests.{eq-eqb, ne_eqb, le-ltb, le-leb, lt-ltb}
 use Rattle.cells.specs.Part.{cell, part, if}
 use Rattle.cells.specs.Sum.{Sum}
 use Rattle.cells.proofs.Parts.{run_length, run_get_d, run_snoc}
@@ -24,21 +24,23 @@ use Rattle.rules.specs.Canonicalizer as rules
 use Rattle.laws.proofs.Rows.{node_of, by_kind}
 use Rattle.laws.proofs.Rooting.{members_below}
 use Rattle.lang_ty.specs.Shapes.{Constructor}
+use Rattle.lang_ty.specs.declared.arena.OutputTy.{OutputTy}
+use Rattle.lang_ty.specs.declared.arena.OutputTy.TheVariants as kinds
+use Rattle.lang_ty.proofs.Codes.{other}
 use Rattle.lang_ty.proofs.Words.{word_of}
 use Rattle.laws.proofs.Filtering.{kept, filter_take, filter_length, filter_under, under_at, under_both, any_here, any_more, any_done}
 use Rattle.lang_ty.specs.declared.arena.Pass.{Pass}
-use Rattle.lang_ty.specs.Nodes.{Arena, Stands, Answers as Stores, Lists as ListNode, Listed as ListedNode, Word, Kind, Is, Count, Member}
-use Rattle.lang_ty.specs.declared.arena.Given.{Given}
-use Rattle.lang_ty.specs.declared.arena.Given.TheVariants.{Node as NodeG, Refused as RefusedN}
+use Rattle.lang_ty.specs.Nodes.{code, Arena, Stands, Answers as Stores, Lists as ListNode, Listed as ListedNode, Word, Kind, Is, Count, Member}
+use Rattle.lang_ty.specs.Given.{Given}
+use Rattle.lang_ty.specs.Given.{Node as NodeG, Refused as RefusedN}
 use Rattle.members.specs.declared.lists.Members.{Members}
-use Rattle.members.specs.declared.lists.Flow.{Flow}
-use Rattle.members.specs.declared.lists.Flow.TheVariants.{On}
-use Rattle.members.specs.declared.lists.Listed.{Listed}
-use Rattle.members.specs.declared.lists.AtMostOne.{AtMostOne}
-use Rattle.members.specs.declared.lists.AtMostOne.TheVariants.{Nothing, One, Refused as RefusedP}
-use Rattle.members.specs.declared.lists.Grown.TheVariants.{On as OnG, Refused as RefusedG}
-use Rattle.members.specs.Lists.{Few, Lists, Taken, Asks, Contains, first_of, MembersOf, Gathered, only, KeepsIf, of_kind, Refuses, Wraps, PartIs, AnswersPart}
-use Rattle.members.specs.Lists.{Soles, Grows, CopiedInto, Joined, AsListed, WithLast, Preserves, Drops, AnswersFlow, Answers}
+use Rattle.members.specs.Flow.{Flow, On, Refused}
+use Rattle.members.specs.Listed.{Listed}
+use Rattle.members.specs.AtMostOne.{AtMostOne}
+use Rattle.members.specs.AtMostOne.{Nothing, One, Refused as RefusedP}
+use Rattle.members.specs.Grown.{On as OnG}
+use Rattle.members.specs.Lists.{Few, Lists, Taken, Asks, Contains, first_of, MembersOf, Gathered, only, KeepsIf, of_kind, Wraps, PartIs, AnswersPart}
+use Rattle.members.specs.Lists.{Soles, Grows, CopiedInto, Joined, AsListed, WithLast, Preserves, Drops, stays, AnswersFlow, Answers}
 use Rattle.cells.specs.Placed.{Holds}
 
 pub few_lists : {m : Members} {xs : List ℕ} → Few m xs → Lists m xs
@@ -386,20 +388,20 @@ module _ {w : List ℕ} {q : Pass} {m : Members} where
               ∙ ap (λ (o : Out ℕ). bind o (λ x. give (x ∷ []))) (subst (λ (y : Given). Stores (store (wrap xs) st) w' y) e (stored wraps on t)).is;
         }
 
--- the ways of `of_that_kind`
-module _ {w : List ℕ} {k x : ℕ} {c : Bool} (a : Is w k x c) where
-  kind_by : (wanted : Bool) {r : Bool} → wanted ≡ true → r ≡ c → Asks (of_kind k wanted) w x r
-  kind_by true e f = record { is = λ h lt. f ∙ a.is h lt }
+-- the ways of `of_kind`: what its two sieves are answered
+module _ {w : List ℕ} {k x : ℕ} {c : Bool} (a : Is w k x c) {q : Pass} {ns : List Node} (h : Arena w q ns) (lt : x < length ns) where
+  kind_by : (wanted : Bool) {b : Bool} → wanted ≡ true → b ≡ c → b ≡ of_kind k wanted ns x
+  kind_by true e f = f ∙ a.is h lt
   kind_by false e f = let z : ◌≡◌ {A = ℕ} 0 1 = cc in absurd (omega arith)
 
-  other_by : (wanted : Bool) {r : Bool} → wanted ≡ false → r ≡ not c → Asks (of_kind k wanted) w x r
+  other_by : (wanted : Bool) {b : Bool} → wanted ≡ false → b ≡ not c → b ≡ of_kind k wanted ns x
   other_by true e f = let z : ◌≡◌ {A = ℕ} 0 1 = cc in absurd (omega arith)
-  other_by false e f = record { is = λ h lt. f ∙ ap not (a.is h lt) }
+  other_by false e f = f ∙ ap not (a.is h lt)
 
-  pub kind_wanted : {wanted : Bool} → wanted ≡ true → Asks (of_kind k wanted) w x c
-  kind_wanted {wanted} e = kind_by wanted e refl
+  pub kind_wanted : {wanted b : Bool} → wanted ≡ true → b ≡ c → b ≡ of_kind k wanted ns x
+  kind_wanted {wanted} e f = kind_by wanted e f
 
-  pub kind_unwanted : {wanted r : Bool} → wanted ≡ false → r ≡ not c → Asks (of_kind k wanted) w x r
+  pub kind_unwanted : {wanted b : Bool} → wanted ≡ false → b ≡ not c → b ≡ of_kind k wanted ns x
   kind_unwanted {wanted} e f = other_by wanted e f
 
 -- unions and intersections are lists of their members
@@ -426,10 +428,7 @@ grow_one {out} {out'} {k} {r} {x} {p} {q} e f sum =
           record { after = b.after; list = x ∷ []; is = b.is; stands = b.stands; below = b.below; most = omega arith; gathered = gathered_more x g lt f sum };
     }
 
-pub grow_refused : {out : List ℕ} {k why : ℕ} {p : AtMostOne} → p ≡ RefusedP why → Grows out k p out (RefusedG why)
-grow_refused e = record { is = λ o w a g lt. subst (λ (x : AtMostOne). AnswersPart o w x) e a }
-
--- the ways of `as_listed` and `with_last`
+-- the ways of `of_at_most_one` and `with_last`
 pub listed_nothing : {p : AtMostOne} {q : Pass} {m : Members} → p ≡ Nothing q → Few m [] → AsListed p (record { flow = On q; members = m })
 listed_nothing {p} {q} e f =
     record {
@@ -447,11 +446,8 @@ listed_one {p} {q} {x} e f =
     }
 
 -- a refusal answers a refusal
-pub refuses : {k : ℕ} {r : Listed} (o : Out (List ℕ)) (w : List ℕ) → Refuses k r → o ≡ no k → Answers o w r
-refuses {k} {r} o w f e = subst (λ (x : Flow). AnswersFlow o w r.members x) (sym f.is) e
-
-pub listed_refused : {p : AtMostOne} {k : ℕ} {r : Listed} → p ≡ RefusedP k → Refuses k r → AsListed p r
-listed_refused e f = record { is = λ o w a. refuses o w f (subst (λ (x : AtMostOne). AnswersPart o w x) e a) }
+pub refuses : {k : ℕ} (r : Listed) (o : Out (List ℕ)) (w : List ℕ) → r.flow ≡ Refused k → o ≡ no k → Answers o w r
+refuses r o w f e = subst (λ (x : Flow). AnswersFlow o w r.members x) (sym f) e
 
 pub last_node : {m n l : Members} {g : Given} {x : ℕ} {q : Pass} → g ≡ NodeG x q → Few n (x ∷ []) → Joined m n l → WithLast m g (record { flow = On q; members = l })
 last_node {m} {n} {l} {g} {x} {q} e f j =
@@ -471,12 +467,10 @@ last_node {m} {n} {l} {g} {x} {q} e f j =
           };
     }
 
-pub last_refused : {m : Members} {g : Given} {k : ℕ} {r : Listed} → g ≡ RefusedN k → Refuses k r → WithLast m g r
-last_refused {k = k} e f =
-    record {
-      is = λ o w {xs} a few lt below.
-          refuses (bind o (λ x. give (xs ++ (x ∷ [])))) w f (ap (λ (o : Out ℕ). bind o (λ x. give (xs ++ (x ∷ [])))) (subst (λ (y : Given). Stores o w y) e a).is);
-    }
+-- a member that is no filler, as `drop_fillers` is answered
+pub stays_if : {p : rules.Pass} {table w : List ℕ} {f count x : ℕ} {q : Pass} {ns : List Node} {b d : Bool} → Preserves p table f count → Arena w q ns → x < length ns
+    → Drops table f count w x d → b ≡ not d → b ≡ stays p ns x
+stays_if pre h lt e z = z ∙ ap not ((e.is pre).is h lt)
 
 -- what a member's kind says of it
 abbrev plain : Bool → Bool → Bool → Bool → Bool
@@ -502,32 +496,20 @@ module _ {w : List ℕ} {x k : ℕ} (a : Kind w x k) where
   positive_by : {r : Bool} → r ≡ neither k → Asks is_positive w x r
   positive_by e = record { is = λ h lt. e ∙ ap neither (a.is h lt) }
 
-  pub positive_neg : k ≡ 8 → Asks is_positive w x false
-  positive_neg e = positive_by (sym (ap neither e))
-
-  pub positive_var : k ≡ 0 → Asks is_positive w x false
-  positive_var e = positive_by (sym (ap neither e))
-
-  pub positive_bottom : k ≡ 9 → Asks is_positive w x false
-  positive_bottom e = positive_by (sym (ap neither e))
-
-  pub positive_last : {r : Bool} → (k ≡ 8 → ⊥) → (k ≡ 0 → ⊥) → (k ≡ 9 → ⊥) → r ≡ not (eqb k 10) → Asks is_positive w x r
-  positive_last e f g z = positive_by (z ∙ sym (λ i. plain (ne_eqb k 8 e i) (ne_eqb k 0 f i) (ne_eqb k 9 g i) (eqb k 10)))
-
   pub concrete_is : {r : Bool} → Constructor k r → Asks is_concrete w x r
   concrete_is c = record { is = λ h lt. c.is ∙ ap (λ (j : ℕ). eqb j 1 || eqb j 4 || eqb j 2 || eqb j 3) (a.is h lt) }
 
   -- fillers by their kind
   module _ {table : List ℕ} {f count : ℕ} where
-    pub drops_bottom : k ≡ 9 → Drops table f count w x true
+    drops_bottom : k ≡ 9 → Drops table f count w x true
     drops_bottom e =
         record { is = λ {p} pre. record { is = λ {q} {ns} h lt. sym (by_kind (node_at ns x) (λ (m : Node). drops_node p m ≡ true) 9 (sym (a.is h lt) ∙ e) refl) } }
 
-    pub drops_top : k ≡ 10 → Drops table f count w x true
+    drops_top : k ≡ 10 → Drops table f count w x true
     drops_top e =
         record { is = λ {p} pre. record { is = λ {q} {ns} h lt. sym (by_kind (node_at ns x) (λ (m : Node). drops_node p m ≡ true) 10 (sym (a.is h lt) ∙ e) refl) } }
 
-    pub drops_other : (k ≡ 9 → ⊥) → (k ≡ 10 → ⊥) → (k ≡ 0 → ⊥) → Drops table f count w x false
+    drops_other : (k ≡ 9 → ⊥) → (k ≡ 10 → ⊥) → (k ≡ 0 → ⊥) → Drops table f count w x false
     drops_other e g z =
         record {
           is = λ {p} pre.
@@ -549,9 +531,9 @@ module _ {w : List ℕ} {x k : ℕ} (a : Kind w x k) where
                 };
           }
 
-      pub drops_past : count ≤ v → Drops table f count w x true
+      pub drops_past : count ≤ v → Drops table f count w x (leb count v)
       drops_past le =
-          drops_var (λ p pre. sym (ap (λ (t : Bool). not (both t (λ _. p.preserved v))) (le-ltb v p.count (omega (arith, pre.size)))))
+          drops_var (λ p pre. le-leb count v le ∙ sym (ap (λ (t : Bool). not (both t (λ _. p.preserved v))) (le-ltb v p.count (omega (arith, pre.size)))))
 
       pub drops_fact : {y c : ℕ} {r : Bool} → v < count → y ≡ f + v → c ≡ cell table y → r ≡ eqb c 0 → Drops table f count w x r
       drops_fact {y} {c} lt z d g =
@@ -561,3 +543,24 @@ module _ {w : List ℕ} {x k : ℕ} (a : Kind w x k) where
           ∙ ap (λ (j : ℕ). eqb j 0) (d ∙ ap (cell table) z)
           ∙ sym (not-not (eqb (cell table (f + v)) 0))
           ∙ sym (ap₂ (λ (t u : Bool). not (both t (λ _. u))) (lt-ltb v p.count (omega (arith, pre.size))) (pre.is v lt)))
+
+-- the same by the kind itself
+module _ {w : List ℕ} {x : ℕ} {k : OutputTy} (a : Kind w x (code k)) where
+  no_by : {j : OutputTy} → neither (code j) ≡ false → k ≡ j → Asks is_positive w x false
+  no_by z f = positive_by a (sym (ap (λ (i : OutputTy). neither (code i)) f ∙ z))
+
+  pub positive_no : (k ≡ kinds.Neg) ⊎ ((k ≡ kinds.TyVar) ⊎ ((k ≡ kinds.Bottom) ⊎ (k ≡ kinds.Top))) → Asks is_positive w x false
+  positive_no e = ⊎_elim (no_by refl) (λ f. ⊎_elim (no_by refl) (λ g. ⊎_elim (no_by refl) (no_by refl) g) f) e
+
+  pub positive_yes : (k ≡ kinds.Neg → ⊥) → (k ≡ kinds.TyVar → ⊥) → (k ≡ kinds.Bottom → ⊥) → (k ≡ kinds.Top → ⊥) → Asks is_positive w x true
+  positive_yes e f g h =
+      positive_by a
+      (sym
+      (λ i. plain (ne_eqb (code k) 8 (other kinds.Neg e) i) (ne_eqb (code k) 0 (other kinds.TyVar f) i) (ne_eqb (code k) 9 (other kinds.Bottom g) i)
+      (ne_eqb (code k) 10 (other kinds.Top h) i)))
+
+  pub drops_filler : {table : List ℕ} {f count : ℕ} → (k ≡ kinds.Bottom) ⊎ (k ≡ kinds.Top) → Drops table f count w x true
+  drops_filler e = ⊎_elim (λ z. drops_bottom a (ap code z)) (λ z. drops_top a (ap code z)) e
+
+  pub drops_none : {table : List ℕ} {f count : ℕ} → (k ≡ kinds.Bottom → ⊥) → (k ≡ kinds.Top → ⊥) → (k ≡ kinds.TyVar → ⊥) → Drops table f count w x false
+  drops_none e f g = drops_other a (other kinds.Bottom e) (other kinds.Top f) (other kinds.TyVar g)

@@ -1,5 +1,5 @@
 -- Lists of members by value and in lent slices, and what the functions on them ensure. Each contract's premises are arguments of its field.
-use Rattle.std.specs.Prelude.{◌≡◌, Bool, true, false, not, ℕ, ◌+◌, ◌≤◌, ◌<◌, List, [], ◌∷◌, ◌++◌, length, eqb}
+use Rattle.std.specs.Prelude.{◌≡◌, Bool, true, false, not, ℕ, ◌+◌, ◌≤◌, ◌<◌, List, [], ◌∷◌, ◌++◌, length, drop, eqb}
 use Rattle.cells.specs.Part.{cell, part}
 use Rattle.cells.specs.Sum.{Sum}
 use Rattle.rules.specs.Ceilings.{most_members}
@@ -9,16 +9,16 @@ use Rattle.rules.specs.Members.{sole, members_at}
 use Rattle.rules.specs.Canonicalizer.{should_drop_filler}
 use Rattle.rules.specs.Canonicalizer as rules
 use Rattle.lang_ty.specs.declared.arena.Pass.{Pass}
-use Rattle.lang_ty.specs.declared.arena.Given.{Given}
+use Rattle.lang_ty.specs.Given.{Given}
 use Rattle.lang_ty.specs.Nodes.{Arena, Comes, Stands, Lists as ListNode, Answers as Stores}
 use Rattle.members.specs.declared.lists.Members.{Members}
-use Rattle.members.specs.declared.lists.Flow.{Flow}
-use Rattle.members.specs.declared.lists.Flow.TheVariants.{On, Refused}
-use Rattle.members.specs.declared.lists.Listed.{Listed}
-use Rattle.members.specs.declared.lists.AtMostOne.{AtMostOne}
-use Rattle.members.specs.declared.lists.AtMostOne.TheVariants.{Nothing, One, Refused as RefusedP}
-use Rattle.members.specs.declared.lists.Grown.{Grown}
-use Rattle.members.specs.declared.lists.Grown.TheVariants.{On as OnG, Refused as RefusedG}
+use Rattle.members.specs.Flow.{Flow}
+use Rattle.members.specs.Flow.{On, Refused}
+use Rattle.members.specs.Listed.{Listed}
+use Rattle.members.specs.AtMostOne.{AtMostOne}
+use Rattle.members.specs.AtMostOne.{Nothing, One, Refused as RefusedP}
+use Rattle.members.specs.Grown.{Grown}
+use Rattle.members.specs.Grown.{On as OnG, Refused as RefusedG}
 use Rattle.cells.specs.Placed.{Holds, Under}
 
 -- the members m are xs, no more than 128
@@ -69,6 +69,14 @@ Answers o w r = AnswersFlow o w r.members r.flow
 pub record Runs (f : List ℕ → Run (List ℕ)) (w : List ℕ) (q : Pass) (m : Members) (w' : List ℕ) (r : Listed) : Type 0 where
   pub is : {st : State} {xs : List ℕ} → Stands st w q → Taken m xs q.nodes → Answers (f xs st) w' r
 
+-- r are those of m for which the test f says so, if what is answered of a member is what f says
+pub record SiftsBy (Answered : ℕ → Bool → Type 0) (m r : Members) : Type 0 where
+  pub is : {xs : List ℕ} {k : ℕ} (f : ℕ → Bool) → Taken m xs k → ((x : ℕ) (b : Bool) → x < k → Answered x b → b ≡ f x) → Taken r (filter f xs) k
+
+-- whether the test f holds of a member from place i on, if what is answered of a member is what f says
+pub record AnyBy (Answered : ℕ → Bool → Type 0) (m : Members) (i : ℕ) (r : Bool) : Type 0 where
+  pub is : {xs : List ℕ} {k : ℕ} (f : ℕ → Bool) → Taken m xs k → ((x : ℕ) (b : Bool) → x < k → Answered x b → b ≡ f x) → r ≡ any f (drop i xs)
+
 -- r is the answer of the test f on node x
 pub record Asks (f : List Node → ℕ → Bool) (w : List ℕ) (x : ℕ) (r : Bool) : Type 0 where
   pub is : {q : Pass} {ns : List Node} → Arena w q ns → x < length ns → r ≡ f ns x
@@ -85,10 +93,6 @@ pub record Beside (f : List Node → List ℕ → ℕ → Bool) (w ms : List ℕ
 pub record Sifts (f : List Node → List ℕ → ℕ → Bool) (w ms : List ℕ) (n : ℕ) (m r : Members) : Type 0 where
   pub is : {q : Pass} {ns : List Node} {xs ys : List ℕ} → Arena w q ns → Taken (first_of n ms) xs (length ns) → Taken m ys (length ns)
       → Taken r (filter (f ns xs) ys) (length ns)
-
--- a refusal, by its number
-pub record Refuses (k : ℕ) (r : Listed) : Type 0 where
-  pub is : r.flow ≡ Refused k
 
 -- whether x is among the first n cells of s
 pub record Contains (s : List ℕ) (n x : ℕ) (r : Bool) : Type 0 where

@@ -1,11 +1,12 @@
 // Flattening of nested unions and intersections.
+ghost use Rattle.lang_ty.specs.Nodes.{code};
 ghost use Rattle.rules.specs.Members.{flatten_composite};
 ghost use Rattle.members.specs.Flattens.{AddsNew, AddsMembers, FlattensOne, Spreads, flatten_all};
 
 use crate::lists::{Members, any_of_kind, contains};
 use cells::{at, set};
 use lang_ty::arena;
-use lang_ty::arena::Pass;
+use lang_ty::arena::{OutputTy, Pass};
 
 // x put after the first k cells of out, unless it is among them; how many there are then. Past 128 nothing is added.
 fn add_new(out: &mut [u32], k: u32, x: u32) -> u32
@@ -26,17 +27,15 @@ fn add_members(arena: &[u32], out: &mut [u32], k: u32, x: u32) -> u32
 {
     let n = arena::count(arena, x);
     let mut got = k;
-    let mut i = 0;
-    while i < n {
+    for i in 0..n {
         got = add_new(out, got, arena::member(arena, x, i));
-        i += 1;
     }
     got
 }
 
 // The members of x where it nests, x itself where it does not; none twice.
-fn flatten_one(arena: &[u32], out: &mut [u32], k: u32, x: u32, kind: u32) -> u32
-    ensures { FlattensOne kind arena.now out.old k x out.new result }
+fn flatten_one(arena: &[u32], out: &mut [u32], k: u32, x: u32, kind: OutputTy) -> u32
+    ensures { FlattensOne (code kind) arena.now out.old k x out.new result }
 {
     if arena::is(arena, kind, x) {
         return add_members(arena, out, k, x);
@@ -45,31 +44,26 @@ fn flatten_one(arena: &[u32], out: &mut [u32], k: u32, x: u32, kind: u32) -> u32
 }
 
 // The members of the members of that kind, and the others, none twice.
-fn flatten_all(arena: &[u32], m: Members, kind: u32) -> Members
-    ensures { Spreads (flatten_all kind) arena.now m result }
+fn flatten_all(arena: &[u32], m: Members, kind: OutputTy) -> Members
+    ensures { Spreads (flatten_all (code kind)) arena.now m result }
 {
     let ms = m.at;
     let n = m.count;
     let mut out = [0u32; 128];
     let mut k = 0;
-    let mut i = 0;
-    while i < n {
+    for i in 0..n {
         let x = at(&ms, i);
         k = flatten_one(arena, &mut out, k, x, kind);
-        i += 1;
     }
     Members { count: k, at: out }
 }
 
 // flatten_composite, one level deep: more than 64 members of which none nests stay as they are.
-pub fn flatten_composite(arena: &[u32], m: Members, kind: u32) -> Members
-    ensures { Spreads (flatten_composite kind) arena.now m result }
+pub fn flatten_composite(arena: &[u32], m: Members, kind: OutputTy) -> Members
+    ensures { Spreads (flatten_composite (code kind)) arena.now m result }
 {
     let n = m.count;
-    if n <= 64 {
-        return flatten_all(arena, m, kind);
-    }
-    if any_of_kind(arena, m, kind) {
+    if n <= 64 || any_of_kind(arena, m, kind) {
         return flatten_all(arena, m, kind);
     }
     m

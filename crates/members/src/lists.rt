@@ -1,40 +1,26 @@
 // Lists of members by value, and what the functions on them share.
-ghost use Rattle.std.specs.Prelude.{[], ◌∷◌};
+ghost use Rattle.std.specs.Prelude.{[], ◌∷◌, Ok};
+ghost use Rattle.lang_ty.specs.declared.arena.Pass.{Pass};
+ghost use Rattle.lang_ty.specs.Given.{Node};
+ghost use Rattle.members.specs.AtMostOne.{at_most_one};
+ghost use Rattle.members.specs.Grown.{grown};
+ghost use Rattle.members.specs.Listed.{listed};
 ghost use Rattle.cells.specs.Part.{part};
+ghost use Rattle.lang_ty.specs.Nodes.{code};
 ghost use Rattle.rules.specs.Members.{is_positive, is_concrete};
-ghost use Rattle.members.specs.Lists.{Few, Lists, Makes, Tests, Asks, Refuses, Contains, KeepsIf, MembersOf, any_of_kind, of_kind, sift, Soles, Grows, CopiedInto};
+ghost use Rattle.members.specs.Lists.{Few, Lists, Makes, Tests, Asks, SiftsBy, AnyBy, Contains, KeepsIf, MembersOf, any_of_kind, of_kind, sift, Soles, Grows, CopiedInto};
 ghost use Rattle.members.specs.Lists.{Joined, AsListed, WithLast, Drops, DropsFillers};
 
 use cells::{add, at, get, place, put, set};
-use lang_ty::arena::{Given, OutputTy, Pass};
+use lang_ty::arena::{OutputTy, Pass};
 use lang_ty::{arena, disjoint};
+use rules::Refusal;
 
 // The first count cells of at; a count above 128 says that there are more than fit.
 #[derive(Clone, Copy)]
 pub struct Members {
     pub count: u32,
     pub at: [u32; 128],
-}
-
-// A step's pass, or the number of a refusal.
-#[derive(Clone, Copy)]
-pub enum Flow {
-    On(Pass),
-    Refused(u32),
-}
-
-#[derive(Clone, Copy)]
-pub struct Listed {
-    pub flow: Flow,
-    pub members: Members,
-}
-
-// No member, one, or a refusal.
-#[derive(Clone, Copy)]
-pub enum AtMostOne {
-    Nothing(Pass),
-    One(u32, Pass),
-    Refused(u32),
 }
 
 pub fn none() -> Members
@@ -46,13 +32,32 @@ pub fn none() -> Members
     }
 }
 
-pub fn refused(k: u32) -> Listed
-    ensures { Refuses k result }
-{
-    let m = none();
-    Listed {
-        flow: Flow::Refused(k),
-        members: m,
+impl Members {
+    // The members for which keep says so.
+    pub fn sift<F: Fn(u32) -> bool>(&self, keep: F) -> Members
+        requires { F.IsAlwaysCallable keep }
+        ensures { SiftsBy (F.post keep) self.now result }
+    {
+        let mut out = [0u32; 128];
+        let mut k = 0;
+        for i in 0..self.count {
+            let x = at(&self.at, i);
+            k = keep_if(&mut out, k, x, keep(x));
+        }
+        Members { count: k, at: out }
+    }
+
+    // Whether test holds of a member from place from on.
+    pub fn any_from<F: Fn(u32) -> bool>(&self, from: u32, test: F) -> bool
+        requires { F.IsAlwaysCallable test }
+        ensures { AnyBy (F.post test) self.now from result }
+    {
+        for i in from..self.count {
+            if test(at(&self.at, i)) {
+                return true;
+            }
+        }
+        false
     }
 }
 
@@ -61,10 +66,8 @@ pub fn held(s: &[u32], h: u32, n: u32) -> Members
     ensures { Lists result (part s.now h n) }
 {
     let mut out = [0u32; 128];
-    let mut i = 0;
-    while i < n {
+    for i in 0..n {
         set(&mut out, i, get(s, place(h, i)));
-        i += 1;
     }
     Members { count: n, at: out }
 }
@@ -73,12 +76,10 @@ pub fn held(s: &[u32], h: u32, n: u32) -> Members
 pub fn contains(s: &[u32], n: u32, x: u32) -> bool
     ensures { Contains s.now n x result }
 {
-    let mut i = 0;
-    while i < n {
+    for i in 0..n {
         if at(s, i) == x {
             return true;
         }
-        i += 1;
     }
     false
 }
@@ -100,44 +101,26 @@ pub fn members_of(arena: &[u32], x: u32) -> Members
 {
     let n = arena::count(arena, x);
     let mut out = [0u32; 128];
-    let mut i = 0;
-    while i < n {
+    for i in 0..n {
         set(&mut out, i, arena::member(arena, x, i));
-        i += 1;
     }
     Members { count: n, at: out }
 }
 
-pub fn any_of_kind(arena: &[u32], m: Members, kind: u32) -> bool
-    ensures { Tests (any_of_kind kind) arena.now m result }
+pub fn any_of_kind(arena: &[u32], m: Members, kind: OutputTy) -> bool
+    ensures { Tests (any_of_kind (code kind)) arena.now m result }
 {
-    let ms = m.at;
-    let n = m.count;
-    let mut i = 0;
-    while i < n {
-        if arena::is(arena, kind, at(&ms, i)) {
-            return true;
-        }
-        i += 1;
-    }
-    false
+    m.any_from(0, |x| arena::is(arena, kind, x))
 }
 
 // Neither a Neg nor a TyVar, Bottom or Top.
 pub fn is_positive(arena: &[u32], x: u32) -> bool
     ensures { Asks is_positive arena.now x result }
 {
-    let k = arena::kind(arena, x);
-    if k == OutputTy::NEG {
-        return false;
+    match arena::kind(arena, x) {
+        OutputTy::Neg | OutputTy::TyVar | OutputTy::Bottom | OutputTy::Top => false,
+        _ => true,
     }
-    if k == OutputTy::TY_VAR {
-        return false;
-    }
-    if k == OutputTy::BOTTOM {
-        return false;
-    }
-    k != OutputTy::TOP
 }
 
 pub fn is_concrete(arena: &[u32], x: u32) -> bool
@@ -147,41 +130,36 @@ pub fn is_concrete(arena: &[u32], x: u32) -> bool
 }
 
 // Nothing of nothing, a sole member itself, more as one stored node of that kind.
-pub fn sole(arena: &mut [u32], q: Pass, kind: u32, m: Members) -> AtMostOne
-    ensures { Soles kind arena.old q m arena.new result }
+pub fn sole(
+    arena: &mut [u32],
+    q: &mut Pass,
+    kind: OutputTy,
+    m: Members,
+) -> Result<Option<u32>, Refusal>
+    ensures { Soles (code kind) arena.old q.old m arena.new (at_most_one result q.new) }
 {
     let ms = m.at;
     let n = m.count;
     if n == 0 {
-        return AtMostOne::Nothing(q);
+        return Ok(None);
     }
     if n == 1 {
-        return AtMostOne::One(ms[0], q);
+        return Ok(Some(ms[0]));
     }
-    match arena::store_list(arena, q, kind, &ms, 0, n) {
-        Given::Node(x, r) => AtMostOne::One(x, r),
-        Given::Refused(k) => AtMostOne::Refused(k),
-    }
+    let x = arena::store_list(arena, q, kind, &ms, 0, n)?;
+    Ok(Some(x))
 }
 
-// A list that has grown to a count, with the pass; or a refusal.
-#[derive(Clone, Copy)]
-pub enum Grown {
-    On(u32, Pass),
-    Refused(u32),
-}
-
-// What is left of a member put after the first k cells of out.
-pub fn grow(out: &mut [u32], k: u32, p: AtMostOne) -> Grown
-    ensures { Grows out.old k p out.new result }
+// What is left of a member put after the first k cells of out; how many there are then.
+pub fn grow(out: &mut [u32], k: u32, p: Option<u32>) -> u32
+    ensures { (q : Pass) → Grows out.old k (at_most_one (Ok p) q) out.new (grown (Ok result) q) }
 {
     match p {
-        AtMostOne::Nothing(q) => Grown::On(k, q),
-        AtMostOne::One(x, q) => {
+        None => k,
+        Some(x) => {
             set(out, k, x);
-            Grown::On(add(k, 1), q)
+            add(k, 1)
         }
-        AtMostOne::Refused(why) => Grown::Refused(why),
     }
 }
 
@@ -191,10 +169,8 @@ fn copy_into(out: &mut [u32], k: u32, m: Members) -> u32
 {
     let ms = m.at;
     let n = m.count;
-    let mut i = 0;
-    while i < n {
+    for i in 0..n {
         put(out, place(k, i), at(&ms, i));
-        i += 1;
     }
     add(k, n)
 }
@@ -217,111 +193,51 @@ pub fn one(x: u32) -> Members
     Members { count: 1, at: ms }
 }
 
-pub fn as_listed(p: AtMostOne) -> Listed
-    ensures { AsListed p result }
+// The list of one member or none.
+pub fn of_at_most_one(p: Option<u32>) -> Members
+    ensures { (q : Pass) → AsListed (at_most_one (Ok p) q) (listed (Ok result) q) }
 {
     match p {
-        AtMostOne::Nothing(q) => {
-            let m = none();
-            Listed {
-                flow: Flow::On(q),
-                members: m,
-            }
-        }
-        AtMostOne::One(x, q) => {
-            let m = one(x);
-            Listed {
-                flow: Flow::On(q),
-                members: m,
-            }
-        }
-        AtMostOne::Refused(k) => refused(k),
+        None => none(),
+        Some(x) => one(x),
     }
-}
-
-// Whether x is of that kind, or is not.
-fn of_that_kind(arena: &[u32], kind: u32, wanted: bool, x: u32) -> bool
-    ensures { Asks (of_kind kind wanted) arena.now x result }
-{
-    let hit = arena::is(arena, kind, x);
-    if wanted {
-        return hit;
-    }
-    !hit
 }
 
 // The members that are of that kind, or those that are not.
-pub fn of_kind(arena: &[u32], m: Members, kind: u32, wanted: bool) -> Members
-    ensures { Makes (sift (of_kind kind wanted)) arena.now m result }
+pub fn of_kind(arena: &[u32], m: Members, kind: OutputTy, wanted: bool) -> Members
+    ensures { Makes (sift (of_kind (code kind) wanted)) arena.now m result }
 {
-    let ms = m.at;
-    let n = m.count;
-    let mut out = [0u32; 128];
-    let mut k = 0;
-    let mut i = 0;
-    while i < n {
-        let x = at(&ms, i);
-        k = keep_if(&mut out, k, x, of_that_kind(arena, kind, wanted, x));
-        i += 1;
+    if wanted {
+        m.sift(|x| arena::is(arena, kind, x))
+    } else {
+        m.sift(|x| !arena::is(arena, kind, x))
     }
-    Members { count: k, at: out }
 }
 
 // The members and a node after them.
-pub fn with_last(m: Members, g: Given) -> Listed
-    ensures { WithLast m g result }
+pub fn with_last(m: Members, x: u32) -> Members
+    ensures { (q : Pass) → WithLast m (Node x q) (listed (Ok result) q) }
 {
-    match g {
-        Given::Node(x, q) => {
-            let all = joined(m, one(x));
-            Listed {
-                flow: Flow::On(q),
-                members: all,
-            }
-        }
-        Given::Refused(k) => refused(k),
-    }
+    joined(m, one(x))
 }
 
 // should_drop_filler: Bottom, Top, or a TyVar of count or more, or one that is not preserved, as the cells of the table from f on tell.
 fn should_drop_filler(arena: &[u32], table: &[u32], f: u32, count: u32, x: u32) -> bool
     ensures { Drops table.now f count arena.now x result }
 {
-    let k = arena::kind(arena, x);
-    if k == OutputTy::BOTTOM {
-        return true;
+    match arena::kind(arena, x) {
+        OutputTy::Bottom | OutputTy::Top => true,
+        OutputTy::TyVar => {
+            let v = arena::word(arena, x, 1);
+            count <= v || get(table, place(f, v)) == 0
+        }
+        _ => false,
     }
-    if k == OutputTy::TOP {
-        return true;
-    }
-    if k != OutputTy::TY_VAR {
-        return false;
-    }
-    let v = arena::word(arena, x, 1);
-    if count <= v {
-        return true;
-    }
-    get(table, place(f, v)) == 0
 }
 
 // The members that are no fillers.
 pub fn drop_fillers(arena: &[u32], table: &[u32], f: u32, count: u32, m: Members) -> Members
     ensures { DropsFillers table.now f count arena.now m result }
 {
-    let ms = m.at;
-    let n = m.count;
-    let mut out = [0u32; 128];
-    let mut k = 0;
-    let mut i = 0;
-    while i < n {
-        let x = at(&ms, i);
-        k = keep_if(
-            &mut out,
-            k,
-            x,
-            !should_drop_filler(arena, table, f, count, x),
-        );
-        i += 1;
-    }
-    Members { count: k, at: out }
+    m.sift(|x| !should_drop_filler(arena, table, f, count, x))
 }

@@ -10,8 +10,8 @@ use native.Mathlib.Omega.{arith}
 use mathlib.Core.List.{List, [], ◌∷◌, ◌++◌, append-nil, append_assoc}
 use lib.ListN.{length, set, drop, length-map, length-set, length-append, drop_of_length-le, get_or-map, get_or-append}
 use lib.Seq.{get_or-set_same, get_or-set_other}
-use lib.Dec.{eqb, ltb}
-use borrow.Author.Tests.{ltb-true, ltb-false, eq-eqb, ne_eqb}
+use lib.Dec.{eqb}
+use borrow.Author.Tests.{eq-eqb, ne_eqb}
 use Rattle.cells.specs.Part.{cell, if}
 use Rattle.cells.specs.Sum.{Sum}
 use Rattle.cells.proofs.Parts.{run_ext}
@@ -24,20 +24,20 @@ use Rattle.rules.specs.Members.{meet_types, merge_fields}
 use Rattle.laws.proofs.Rows.{field_words_length, key_read, type_read}
 use Rattle.laws.proofs.Keeping.{Keeps, keeps_if, keeps_give, keeps_store}
 use Rattle.lang_ty.specs.declared.arena.Pass.{Pass}
-use Rattle.lang_ty.specs.declared.arena.Given.{Given}
-use Rattle.lang_ty.specs.declared.arena.Given.TheVariants.{Node as NodeG, Refused as RefusedN}
+use Rattle.lang_ty.specs.Given.{Given}
+use Rattle.lang_ty.specs.Given.{Node as NodeG, Refused as RefusedN}
 use Rattle.lang_ty.specs.Nodes.{Stands, Answers as Stores, Is, Stored}
 use Rattle.lang_ty.specs.Sets.{SetAt, Fields, Key, FieldType}
 use Rattle.lang_ty.specs.Shapes.{SetPlace}
 use Rattle.lang_ty.proofs.Stores.{gives, refuses, answers_of, stored_intersection}
-use Rattle.members.specs.declared.lists.Flow.{Flow}
-use Rattle.members.specs.declared.lists.Flow.TheVariants.{On as OnF, Refused as RefusedF}
+use Rattle.members.specs.Flow.{Flow}
+use Rattle.members.specs.Flow.{On as OnF, Refused as RefusedF}
 use Rattle.merge.specs.declared.Merging.{Merging}
-use Rattle.merge.specs.declared.Merged.TheVariants.{On, Refused}
+use Rattle.merge.specs.Merged.{On, Refused}
 use Rattle.merge.specs.declared.Next.{Next}
 use Rattle.merge.specs.declared.Next.TheVariants.{Old, New, Both}
 use Rattle.merge.specs.Merges.{Rise, field_at, Meets, put_at, PutsField, HeldKey, HeldType, Comes, ComesNext, old_taken, new_taken, next_field, next_key, FieldPut}
-use Rattle.merge.specs.Merges.{AnswersField, MergesField, GoesOn, Got, fields_at, SetNode, Free, MergesFields}
+use Rattle.merge.specs.Merges.{AnswersField, MergesField, Got, SetNode, Free, MergesFields}
 use Rattle.laws.proofs.Filtering.{under_at, under_most, under_front}
 use Rattle.merge.proofs.Fields.{false_true, rise_length, rise_snoc, rise_most, sweep, sweep_from, sweep_left, sweep_right, sweep_few}
 use Rattle.cells.specs.Placed.{Holds, Under}
@@ -176,8 +176,8 @@ module _ {w held : List ℕ} {a i n s j m : ℕ} where
               (omega arith, λ l. omega arith);
         }
 
-    pub next_both : old ≤ new → new ≤ old → ComesNext w held a i n s j m Both
-    next_both le ge =
+    pub next_both : old ≡ new → ComesNext w held a i n s j m Both
+    next_both same =
         record {
           is = λ fs {t} at h few e f left.
               let x = ko.is fs h few (omega arith) in
@@ -269,17 +269,6 @@ module _ {w held w' : List ℕ} {q : Pass} {next : Next} {a i p j old new : ℕ}
         is = λ {st} fs {t = v} on at h few lo ln c lt.
             ap (λ (o : Out ℕ). bind o (λ y. give (record { key = (field_at fs i).key; type = y }))) (refuses (meeting_of fs on at h few lo ln c) f);
       })
-
--- `goes_on`
-module _ {k most i n j m : ℕ} where
-  pub goes_full : most ≤ k → GoesOn k most i n j m false
-  goes_full le = record { some = λ e. false_true e; none = λ e. inl le }
-
-  pub goes_old : k < most → i < n → GoesOn k most i n j m true
-  goes_old lt l = record { some = λ e. (lt, inl l); none = λ e. false_true (sym e) }
-
-  pub goes_new : {r : Bool} → k < most → n ≤ i → r ≡ ltb j m → GoesOn k most i n j m r
-  goes_new lt le z = record { some = λ e. (lt, inr (ltb-true j m (sym z ∙ e))); none = λ e. inr (le, ltb-false j m (sym z ∙ e)) }
 
 -- a part of a slice that is alike there
 pub holds_alike : {w w' : List ℕ} {a : ℕ} {xs : List ℕ} → Holds w a xs → ((k : ℕ) → a ≤ k → k < a + length xs → cell w' k ≡ cell w k) → Holds w' a xs
@@ -412,8 +401,8 @@ module _ {w₀ held₀ : List ℕ} {p : Pass} {g : Merging} {x b m most : ℕ} {
         (under_front x (field_types t.fields) (dyn_ids t.dyn)
         (subst (λ (n : rules.Node). Under x (children n)) node_now (mid.stands.arena.below x known)))
 
-    comes : {r : ℕ} {next : Next} → SetPlace w x r → ComesNext w held g.area i g.fields r j m next → (i < g.fields) ⊎ (j < m) → Comes next fs i t.fields j
-    comes place c l = c.is fs (set_now place) mid.olds fs_few got.count fields_are l
+    comes : {r : ℕ} {next : Next} → SetPlace w x r → ComesNext w held g.area i g.fields r j m next → (i < g.fields) ⊎ ((g.fields ≤ i) × (j < m)) → Comes next fs i t.fields j
+    comes place c l = c.is fs (set_now place) mid.olds fs_few got.count fields_are (⊎_elim (λ z. inl z) (λ z. inr z.1) l)
 
     module _ (next : Next) (c : Comes next fs i t.fields j) where
       abbrev key : ℕ
@@ -476,22 +465,18 @@ module _ {w₀ held₀ : List ℕ} {p : Pass} {g : Merging} {x b m most : ℕ} {
           ∙ sweep mid.done fs t.fields i j mid.bound mid.now mid.low mid.left mid.right next c
           ∙ ap (λ (o : Out Field). bind o (λ y. merge_fields ((mid.done ++ (y ∷ [])) ++ drop (i + old_taken next) fs) (drop (j + new_taken next) t.fields))) e
 
-  module _ {goes : Bool} (on : GoesOn k most i g.fields j m goes) (e : goes ≡ true) where
-    pub sweeping_fits : Fits w32 (k + 1)
-    sweeping_fits = omega (arith, (on.some e).0, sum_small inv.all)
+  pub sweeping_fits : k < most → Fits w32 (k + 1)
+  sweeping_fits lt = omega (arith, sum_small inv.all)
 
-    pub sweeping_less : most - (k + 1) < most - k
-    sweeping_less = omega (arith, (on.some e).0)
-
-  module _ {r : ℕ} {goes : Bool} {next : Next} {flow : Flow} {w' held' : List ℕ}
-      (on : GoesOn k most i g.fields j m goes) (e : goes ≡ true) (place : SetPlace w x r) (c : ComesNext w held g.area i g.fields r j m next)
+  module _ {r : ℕ} {next : Next} {flow : Flow} {w' held' : List ℕ}
+      (more : (i < g.fields) ⊎ ((g.fields ≤ i) × (j < m))) (place : SetPlace w x r) (c : ComesNext w held g.area i g.fields r j m next)
       (call : MergesField w held q next g.area i r j b k w' held' flow) where
     answered : {st : State} {fs : List Field} {d : Option ℕ} {t : Attr} (up : Stands st w₀ p) (got : Got held₀ g fs d p.nodes) (node : SetNode st p x t)
         (free : Free held₀ g.area b)
         → AnswersField (next_field next (field_at fs i) (field_at t.fields j) (mid up got node free).now) (next_key next (field_at fs i) (field_at t.fields j))
         (mid up got node free).now w' held held' b k flow
     answered {fs = fs} {t = t} up got node free =
-        let z = comes up got node free place c (on.some e).1 in
+        let z = comes up got node free place c more in
         call.is fs (mid up got node free).stands (set_now up got node free place) (mid up got node free).olds (fs_few up got node free)
         (under_most p.nodes q.nodes (field_types fs) (nodes_most up got node free) got.types) (t_types up got node free) z
         (fits up got node free next z)
@@ -506,7 +491,7 @@ module _ {w₀ held₀ : List ℕ} {p : Pass} {g : Merging} {x b m most : ℕ} {
           cells = long ∙ inv.cells;
           kept = λ c lt. call.kept c lt ∙ inv.kept c lt;
           is = λ {st} {fs} {d} {t} up got node free.
-              let z = comes up got node free place c (on.some e).1 in
+              let z = comes up got node free place c more in
               let put : FieldPut (next_field next (field_at fs i) (field_at t.fields j) (mid up got node free).now) (next_key next (field_at fs i) (field_at t.fields j))
               (mid up got node free).now w' held held' b k q' =
               subst (λ (o : Flow). AnswersField (next_field next (field_at fs i) (field_at t.fields j) (mid up got node free).now) (next_key next (field_at fs i) (field_at t.fields j))
@@ -523,16 +508,15 @@ module _ {w₀ held₀ : List ℕ} {p : Pass} {g : Merging} {x b m most : ℕ} {
         record {
           kept = λ c lt. call.kept c lt ∙ inv.kept c lt;
           is = λ {st} {fs} {d} {t} up got node free.
-              swept_refused up got node free next (comes up got node free place c (on.some e).1)
+              swept_refused up got node free next (comes up got node free place c more)
               (subst (λ (o : Flow). AnswersField (next_field next (field_at fs i) (field_at t.fields j) (mid up got node free).now) (next_key next (field_at fs i) (field_at t.fields j))
               (mid up got node free).now w' held held' b k o) f (answered up got node free));
         }
 
-  pub sweeping_done : {goes : Bool} {g' : Merging} → GoesOn k most i g.fields j m goes → goes ≡ false → g' ≡ fields_at g k b
-      → MergesFields w₀ held₀ p g x b w held (On g' q)
-  sweeping_done {g' = g'} goes_on e f =
-      subst (λ (v : Merging). MergesFields w₀ held₀ p g x b w held (On v q)) (sym f)
-      (record {
+  pub sweeping_done : (most ≤ k) ⊎ ((g.fields ≤ i) × (m ≤ j))
+      → MergesFields w₀ held₀ p g x b w held (On (record { fields = k; area = b; dyn_type = g.dyn_type }) q)
+  sweeping_done none_left =
+      record {
         kept = inv.kept;
         is = λ {st} {fs} {d} {t} on got node free.
             let z = mid on got node free in
@@ -542,7 +526,7 @@ module _ {w₀ held₀ : List ℕ} {p : Pass} {g : Merging} {x b m most : ℕ} {
             let most-is : most ≡ g.fields + m = inv.all.is (omega (arith, got.count)) in
             let ends : (length fs ≤ i) × (length t.fields ≤ j) =
             ⊎_elim (λ l. (omega (arith, z.few, z.few_old, z.few_new, got.count), omega (arith, z.few, z.few_old, z.few_new, got.count)))
-            (λ l. (omega (arith, l.0, got.count), omega (arith, l.1))) (goes_on.none e) in
+            (λ l. (omega (arith, l.0, got.count), omega (arith, l.1))) none_left in
             record {
               after = z.now;
               more = z.more;
@@ -564,4 +548,4 @@ module _ {w₀ held₀ : List ℕ} {p : Pass} {g : Merging} {x b m most : ℕ} {
               };
               area = refl;
             };
-      })
+      }

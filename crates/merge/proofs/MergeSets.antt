@@ -25,24 +25,26 @@ use Rattle.laws.specs.Sound.{Orderly, OrderlySet, Ordered}
 use Rattle.laws.proofs.Rows.{node_of}
 use Rattle.laws.proofs.Storing.{store_keeps}
 use Rattle.lang_ty.specs.declared.arena.Pass.{Pass}
-use Rattle.lang_ty.specs.declared.arena.Given.{Given}
-use Rattle.lang_ty.specs.declared.arena.Given.TheVariants.{Node as NodeG, Refused as RefusedN}
+use Rattle.lang_ty.specs.Given.{Given}
+use Rattle.lang_ty.specs.Given.{Node as NodeG, Refused as RefusedN}
 use Rattle.lang_ty.specs.Nodes.{Stands, Stored, Answers as Stores}
 use Rattle.lang_ty.specs.Sets.{SetAt, Dyns, DynType}
 use Rattle.lang_ty.specs.Shapes.{SetPlace}
 use Rattle.lang_ty.proofs.Stores.{gives, refuses, stored_intersection}
 use Rattle.merge.specs.declared.Merging.{Merging}
-use Rattle.merge.specs.declared.Merged.{Merged}
-use Rattle.merge.specs.declared.Merged.TheVariants.{On, Refused}
+use Rattle.merge.specs.Merged.{Merged}
+use Rattle.merge.specs.Merged.{On, Refused}
 use Rattle.members.specs.declared.lists.Members.{Members}
 use Rattle.members.specs.Lists.{Taken}
-use Rattle.merge.specs.Merges.{Roomy, Got, dyn_at, SetNode, Free, AnswersFields, MergesFields, DynGot, AnswersDyn, MergesDyn, OtherArea, Then, Arrived}
+use Rattle.merge.specs.Merges.{Roomy, Got, dyns_in, dyn_in, SetNode, Free, AnswersFields, MergesFields, DynGot, AnswersDyn, MergesDyn, OtherArea, Then, Arrived}
 use Rattle.merge.specs.Merges.{AnswersMerged, MergesOne, AllSets, MergesAll}
 use Rattle.laws.proofs.Filtering.{under_at, under_most, under_back}
 use Rattle.members.proofs.Gathered.{few_at, few_below}
 use Rattle.merge.proofs.Fields.{rise_of}
 use Rattle.cells.specs.Placed.{Under}
 use mathlib.Core.Option.{Option, none, some}
+use Rattle.std.specs.Prelude.{Some, None}
+use Rattle.std.specs.Prelude as std
 
 -- two dyns, by how many there are
 module _ (st : State) where
@@ -72,7 +74,11 @@ module _ (st : State) where
   merge_both (some o) none h l z = absurd (omega arith)
   merge_both (some o) (some x) h l z = ap (λ (b : Bool). dyn_by b o x) (ne_eqb o x z)
 
-got_dyn : {held : List ℕ} {g : Merging} {fs : List Field} {d : Option ℕ} {k k' x : ℕ} → Got held g fs d k → k ≤ k' → x < k' → Got held (dyn_at g x) fs (some x) k'
+-- g with the dyn x
+abbrev with_dyn : Merging → ℕ → Merging
+with_dyn g x = record { fields = g.fields; area = g.area; dyn_type = Some x }
+
+got_dyn : {held : List ℕ} {g : Merging} {fs : List Field} {d : Option ℕ} {k k' x : ℕ} → Got held g fs d k → k ≤ k' → x < k' → Got held (with_dyn g x) fs (some x) k'
 got_dyn {fs = fs} {k = k} {k' = k'} h le lt =
     record {
       count = h.count;
@@ -86,6 +92,14 @@ got_dyn {fs = fs} {k = k} {k' = k'} h le lt =
 
 dyn_there : {w : List ℕ} {p n : ℕ} {t : Attr} → Dyns w p n → (n ≡ 0 → ⊥) → SetAt w p t → 0 < length (dyn_ids t.dyn)
 dyn_there has filled at = omega (arith, has.is at, filled)
+
+-- the dyn so far
+module _ {g : Merging} {old : ℕ} (has_old : g.dyn_type ≡ Some old) {held : List ℕ} {fs : List Field} {d : Option ℕ} {k : ℕ} (got : Got held g fs d k) where
+  old_there : 0 < length (dyn_ids d)
+  old_there = omega (arith, sym got.dyns ∙ ap dyns_in has_old)
+
+  old_is : old ≡ get_or (dyn_ids d) 0 0
+  old_is = sym (ap dyn_in has_old) ∙ got.dyn old_there
 
 -- `merge_dyn`
 module _ {w : List ℕ} {q : Pass} {g : Merging} {p n : ℕ} (has : Dyns w p n) where
@@ -106,7 +120,7 @@ module _ {w : List ℕ} {q : Pass} {g : Merging} {p n : ℕ} (has : Dyns w p n) 
       }
 
   module _ {new : ℕ} (filled : n ≡ 0 → ⊥) (ty : DynType w p new) where
-    dyn_taken : {g' : Merging} {held : List ℕ} {st : State} {fs : List Field} {d : Option ℕ} {t : Attr} → g' ≡ dyn_at g new → Stands st w q → Got held g fs d q.nodes
+    dyn_taken : {g' : Merging} {held : List ℕ} {st : State} {fs : List Field} {d : Option ℕ} {t : Attr} → g' ≡ with_dyn g new → Stands st w q → Got held g fs d q.nodes
         → SetAt w p t → Under q.nodes (dyn_ids t.dyn) → merge_dyn d t.dyn st ≡ ok (some (get_or (dyn_ids t.dyn) 0 0)) st
         → DynGot (merge_dyn d t.dyn st) fs st w held g g' q
     dyn_taken {g'} {held} {st} {fs} {d} {t} e on got at low z =
@@ -123,42 +137,45 @@ module _ {w : List ℕ} {q : Pass} {g : Merging} {p n : ℕ} (has : Dyns w p n) 
           area = refl;
         })
 
-    pub dyn_first : {g' : Merging} → g.dyns ≡ 0 → g' ≡ dyn_at g new → MergesDyn w q g p w (On g' q)
-    dyn_first e f = record { is = λ held {st} {fs} {d} {t} on got at low. dyn_taken f on got at low (merge_first st d t.dyn (sym got.dyns ∙ e) (dyn_there has filled at)) }
+    pub dyn_first : g.dyn_type ≡ None → MergesDyn w q g p w (On (with_dyn g new) q)
+    dyn_first e =
+        record {
+          is = λ held {st} {fs} {d} {t} on got at low.
+              dyn_taken refl on got at low (merge_first st d t.dyn (sym got.dyns ∙ ap dyns_in e) (dyn_there has filled at));
+        }
 
-    module _ (old : g.dyns ≡ 0 → ⊥) where
-      pub dyn_same : {g' : Merging} → g.dyn_type ≡ new → g' ≡ dyn_at g new → MergesDyn w q g p w (On g' q)
-      dyn_same e f =
+    module _ {old : ℕ} (has_old : g.dyn_type ≡ Some old) where
+      pub dyn_same : old ≡ new → MergesDyn w q g p w (On g q)
+      dyn_same e =
           record {
             is = λ held {st} {fs} {d} {t} on got at low.
-                let l : 0 < length (dyn_ids d) = omega (arith, got.dyns, old) in
-                dyn_taken f on got at low (merge_same st d t.dyn l (dyn_there has filled at) (sym (got.dyn l) ∙ e ∙ ty.is at (dyn_there has filled at)));
+                dyn_taken (ap (λ (o : std.Option ℕ). record { fields = g.fields; area = g.area; dyn_type = o }) (has_old ∙ ap Some e))
+                on got at low (merge_same st d t.dyn (old_there has_old got) (dyn_there has filled at) (sym (old_is has_old got) ∙ e ∙ ty.is at (dyn_there has filled at)));
           }
 
-      module _ {w' : List ℕ} {r : Given} (e : g.dyn_type ≡ new → ⊥) (h : Stored (6 ∷ 2 ∷ g.dyn_type ∷ new ∷ []) 2 w q w' r) where
+      module _ {w' : List ℕ} {r : Given} (e : old ≡ new → ⊥) (h : Stored (6 ∷ 2 ∷ old ∷ new ∷ []) 2 w q w' r) where
         both_is : (st : State) {held : List ℕ} {fs : List Field} {d : Option ℕ} {t : Attr} → Got held g fs d q.nodes → SetAt w p t
-            → merge_dyn d t.dyn st ≡ bind (store (Intersection (g.dyn_type ∷ new ∷ [])) st) (λ x. give (some x))
+            → merge_dyn d t.dyn st ≡ bind (store (Intersection (old ∷ new ∷ [])) st) (λ x. give (some x))
         both_is st {d = d} {t = t} got at =
-            let l : 0 < length (dyn_ids d) = omega (arith, got.dyns, old) in
-            let x = got.dyn l in
+            let l = old_there has_old got in
+            let x = old_is has_old got in
             let y = ty.is at (dyn_there has filled at) in
             merge_both st d t.dyn l (dyn_there has filled at) (λ z. e (x ∙ z ∙ sym y))
             ∙ ap₂ (λ (a b : ℕ). bind (store (Intersection (a ∷ b ∷ [])) st) (λ v. give (some v))) (sym x) (sym y)
 
         both_stored : {held : List ℕ} {st : State} {fs : List Field} {d : Option ℕ} {t : Attr} → Stands st w q → Got held g fs d q.nodes → SetAt w p t
-            → Under q.nodes (dyn_ids t.dyn) → Stores (store (Intersection (g.dyn_type ∷ new ∷ [])) st) w' r
+            → Under q.nodes (dyn_ids t.dyn) → Stores (store (Intersection (old ∷ new ∷ [])) st) w' r
         both_stored {d = d} {t = t} on got at low =
-            let l : 0 < length (dyn_ids d) = omega (arith, got.dyns, old) in
-            stored_intersection on h (omega (arith, got.dyn l, under_at q.nodes (dyn_ids d) 0 got.dyn_below l))
+            let l = old_there has_old got in
+            stored_intersection on h (omega (arith, old_is has_old got, under_at q.nodes (dyn_ids d) 0 got.dyn_below l))
             (omega (arith, ty.is at (dyn_there has filled at), under_at q.nodes (dyn_ids t.dyn) 0 low (dyn_there has filled at)))
 
-        pub dyn_both : {x : ℕ} {q' : Pass} {g' : Merging} → r ≡ NodeG x q' → g' ≡ dyn_at g x → MergesDyn w q g p w' (On g' q')
-        dyn_both {x} {q'} {g'} f z =
-            subst (λ (m : Merging). MergesDyn w q g p w' (On m q')) (sym z)
-            (record {
+        pub dyn_both : {x : ℕ} {q' : Pass} → r ≡ NodeG x q' → MergesDyn w q g p w' (On (with_dyn g x) q')
+        dyn_both {x} {q'} f =
+            record {
               is = λ held {st} {fs} {d} {t} on got at low.
                   let a = gives (both_stored on got at low) f in
-                  let kept = store_keeps (Intersection (g.dyn_type ∷ new ∷ [])) st x a.after a.is in
+                  let kept = store_keeps (Intersection (old ∷ new ∷ [])) st x a.after a.is in
                   let up = length-append st.nodes kept.grows.more in
                   record {
                     after = a.after;
@@ -172,7 +189,7 @@ module _ {w : List ℕ} {q : Pass} {g : Merging} {p n : ℕ} (has : Dyns w p n) 
                         (omega (arith, a.below, a.stands.arena.count));
                     area = refl;
                   };
-            })
+            }
 
         pub dyn_refused : {k : ℕ} → r ≡ RefusedN k → MergesDyn w q g p w' (Refused k)
         dyn_refused f =
@@ -297,7 +314,7 @@ pub record Passing (w₀ held₀ : List ℕ) (h : ℕ) (p : Pass) (s : Members) 
   pub is : {st : State} {xs : List ℕ} → Stands st w₀ p → Ordered st.nodes → Taken s xs p.nodes → AllSets st.nodes xs → Roomy held₀ h
       → Arrived (λ then. merge_attrs [] none (attrs_of st.nodes xs) then st) (attrs_of st.nodes (drop i xs)) st w held h g q
 
-pub passing_start : {w held : List ℕ} {h : ℕ} {p : Pass} {s : Members} → s.count ≤ 4294967295 → Passing w held h p s w held (record { fields = 0; area = h; dyns = 0; dyn_type = 0 }) p 0
+pub passing_start : {w held : List ℕ} {h : ℕ} {p : Pass} {s : Members} → s.count ≤ 4294967295 → Passing w held h p s w held (record { fields = 0; area = h; dyn_type = None }) p 0
 passing_start {held = held} {h = h} small =
     record {
       few = omega arith;

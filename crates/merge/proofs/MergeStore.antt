@@ -5,10 +5,10 @@ use Prim.Native.Nat.{ℕ, zero, suc, ◌+◌, ◌*◌, ◌≤◌, ◌<◌}
 use native.Mathlib.Omega.{arith}
 use native.Mathlib.Nat.{not-suc-le-zero}
 use mathlib.Core.List.{List, [], ◌∷◌, ◌++◌}
-use lib.ListN.{length, get_or, drop, set, length-set, length-append, length-map, drop_of_length-le, get_or-append}
+use lib.ListN.{length, get_or, take, drop, set, length-set, length-append, length-map, drop_of_length-le, get_or-append}
 use lib.Seq.{get_or-set_same, get_or-set_other, append_snoc}
 use lib.Dec.{eqb}
-use borrow.Author.Tests.{eqb-true, eqb-false, eq-eqb, ne_eqb}
+use borrow.Author.Tests.{eqb-true, eqb-false}
 use Rattle.cells.specs.Part.{cell, part, if}
 use Rattle.cells.specs.Sum.{Sum}
 use Rattle.cells.proofs.Holding.{holds_none, holds_place, holds_cons}
@@ -23,7 +23,8 @@ use Rattle.laws.proofs.Ascending.{ascending_of, ascending_filter}
 use Rattle.laws.proofs.Rows.{field_words_length, dyn_words_length, few_dyns}
 use Rattle.laws.proofs.Storing.{store_keeps}
 use Rattle.lang_ty.specs.declared.arena.Pass.{Pass}
-use Rattle.lang_ty.specs.declared.arena.Given.{Given}
+use Rattle.lang_ty.specs.Given.{Given}
+use Rattle.lang_ty.specs.Given.{Refused as RefusedN}
 use Rattle.lang_ty.specs.Nodes.{highest, Arena, Stands, Interned, Written, Answers as Stores}
 use Rattle.lang_ty.specs.Nodes as nodes
 use Rattle.lang_ty.specs.Sets.{Open}
@@ -31,56 +32,79 @@ use Rattle.lang_ty.specs.Shapes.{SetPlace}
 use Rattle.lang_ty.proofs.Words.{high}
 use Rattle.lang_ty.proofs.Rows.{stored_row, written_more, written_list, written_both, written_two, stands_below}
 use Rattle.members.specs.declared.lists.Members.{Members}
-use Rattle.members.specs.declared.lists.Flow.{Flow}
-use Rattle.members.specs.declared.lists.Flow.TheVariants.{On as OnF}
-use Rattle.members.specs.declared.lists.Listed.{Listed}
+use Rattle.members.specs.Flow.{On as OnF, Refused as RefusedF}
+use Rattle.members.specs.Listed.{Listed}
 use Rattle.merge.specs.declared.Merging.{Merging}
-use Rattle.merge.specs.declared.Merged.{Merged}
-use Rattle.merge.specs.declared.Merged.TheVariants.{On, Refused}
-use Rattle.members.specs.Lists.{Few, Taken, Makes, of_kind, sift, Refuses, WithLast, AnswersFlow, Answers, first_of}
-use Rattle.merge.specs.Merges.{Roomy, MergesSets, Rise, Got, Free, OtherArea, Then, Arrived, AnswersMerged, AllSets, MergesAll, OpenIfAll, ListsKeys, KeyList, SievesAll}
+use Rattle.merge.specs.Merged.{Merged}
+use Rattle.merge.specs.Merged.{On, Refused}
+use Rattle.members.specs.Lists.{Few, Taken, Makes, of_kind, sift, WithLast, Answers, first_of}
+use Rattle.merge.specs.Merges.{Roomy, MergesSets, Rise, Got, dyns_in, dyn_in, Free, OtherArea, Then, Arrived, AllSets, MergesAll, OpenIfAll, ListsKeys, KeyList, SievesAll}
 use Rattle.merge.specs.Merges.{front_words, back_words, WritesDyn, WritesFields, WritesFlags, optional_keys, WritesOptional, merged_node, StoresMerged}
 use Rattle.merge.specs.Merges.{MergedLast}
 use Rattle.laws.proofs.Filtering.{filter_length, under_at, under_both, under_most}
 use Rattle.merge.proofs.Fields.{rise_length, rise_rising, rise_under}
 use Rattle.merge.proofs.MergeFields.{holds_alike}
-use Rattle.merge.proofs.MergeSets.{other_free, attrs_drop}
+use Rattle.merge.proofs.MergeSets.{other_free, attrs_drop, set_at}
 use Rattle.merge.proofs.Sieving.{set_at_lem}
 use Rattle.cells.specs.Placed.{Under}
+use Rattle.std.specs.Bool.{MatchBool}
+use Rattle.std.proofs.lemmas.List.{get_or-take, length-take}
+use Rattle.std.specs.List.{AllWithin, HoldsAt}
+use mir.Val.{bool_byte}
 use mathlib.Core.Option.{Option, none, some}
+use Rattle.std.specs.Prelude.{Some, None}
 
--- `open_if_all` at member i
-pub record Opening (w ms : List ℕ) (n i : ℕ) : Type 0 where
-  pub few : i ≤ n
-  pub is : {q : Pass} {ns : List rules.Node} {xs : List ℕ} → Arena w q ns → Taken (first_of n ms) xs (length ns) → AllSets ns xs → open_if_all (attrs_of ns (drop i xs)) ≡ open_if_all (attrs_of ns xs)
+-- what is told of a set: whether it is open
+pub record Told (w : List ℕ) (x : ℕ) (b : Bool) : Type 0 where
+  pub p : ℕ
+  pub o : ℕ
+  pub place : SetPlace w x p
+  pub flag : Open w p o
+  pub is : b ≡ eqb o 1
 
 -- the answer where the first set is open or not
 abbrev open_by : Bool → List Attr → ℕ
 open_by b ts = if (if b (λ _. all (λ (a : Attr). eqb a.is_open 1) ts) (λ _. false)) (λ _. 1) (λ _. 0)
 
-module _ {w ms : List ℕ} {n : ℕ} where
-  pub opening_start : Opening w ms n 0
-  opening_start = record { few = omega arith; is = λ h m a. refl }
+closed_by : (b : Bool) (ts : List Attr) → open_if_all ts ≡ 0 → open_by b ts ≡ 0
+closed_by true ts e = e
+closed_by false ts e = refl
 
-  module _ {i y p o : ℕ} (c : Opening w ms n i) (lt : i < n) (e : y ≡ cell ms i) (place : SetPlace w y p) (told : Open w p o) where
-    opened : {q : Pass} {ns : List rules.Node} {xs : List ℕ} (b : Bool) → eqb o 1 ≡ b → Arena w q ns → Taken (first_of n ms) xs (length ns) → AllSets ns xs
-        → open_by b (attrs_of ns (drop (i + 1) xs)) ≡ open_if_all (attrs_of ns xs)
-    opened {ns = ns} {xs = xs} b z h m a =
-        ap (λ (v : Bool). open_by v (attrs_of ns (drop (i + 1) xs))) (sym z ∙ ap (λ (v : ℕ). eqb v 1) (told.is (set_at_lem h a place m e lt)))
-        ∙ sym (ap open_if_all (attrs_drop ns xs i a (omega (arith, m.list.count))))
-        ∙ c.is h m a
+-- `open_if_all`
+module _ {w ms xs : List ℕ} {n : ℕ} {q : Pass} {ns : List rules.Node} (h : Arena w q ns) (m : Taken (first_of n ms) xs (length ns)) (sets : AllSets ns xs) where
+  first_told : {b : Bool} (i : ℕ) → i < length xs → Told w (cell ms i) b → open_if_all (attrs_of ns (drop i xs)) ≡ open_by b (attrs_of ns (drop (i + 1) xs))
+  first_told {b} i lt t =
+      ap open_if_all (attrs_drop ns xs i sets lt)
+      ∙ ap (λ (v : Bool). open_by v (attrs_of ns (drop (i + 1) xs)))
+      (ap (λ (v : ℕ). eqb v 1) (sym (t.flag.is (set_at_lem h sets t.place m refl (omega (arith, m.list.count))))) ∙ sym t.is)
 
-    pub opening_more : o ≡ 1 → Opening w ms n (i + 1)
-    opening_more z = record { few = omega arith; is = λ h m a. opened true (eq-eqb o 1 z) h m a }
+  -- one that is not open, whatever is before it
+  closed_from : (i : ℕ) → i < length xs → Told w (cell ms i) false → (j k : ℕ) → j + k ≡ i → open_if_all (attrs_of ns (drop j xs)) ≡ 0
+  closed_from i lt t j zero e = subst (λ (v : ℕ). open_if_all (attrs_of ns (drop v xs)) ≡ 0) (sym e ∙ omega arith) (first_told i lt t)
+  closed_from i lt t j (suc k) e =
+      ap open_if_all (attrs_drop ns xs j sets (omega arith))
+      ∙ closed_by (eqb (set_at ns xs j).is_open 1) (attrs_of ns (drop (j + 1) xs)) (closed_from i lt t (j + 1) k (omega arith))
 
-    pub opening_fails : (o ≡ 1 → ⊥) → OpenIfAll w ms n 0
-    opening_fails z = record { is = λ h m a. opened false (ne_eqb o 1 z) h m a }
+  open_from : ((i : ℕ) → i < length xs → Told w (cell ms i) true) → (j k : ℕ) → j + k ≡ length xs → open_if_all (attrs_of ns (drop j xs)) ≡ 1
+  open_from t j zero e = ap (λ (l : List ℕ). open_if_all (attrs_of ns l)) (drop_of_length-le xs {i = j} (omega arith))
+  open_from t j (suc k) e = first_told j (omega arith) (t j (omega arith)) ∙ open_from t (j + 1) k (omega arith)
 
-  pub opening_done : {i : ℕ} → Opening w ms n i → n ≤ i → OpenIfAll w ms n 1
-  opening_done {i} c le =
+  -- a place of the first n members
+  place_told : (P : ℕ → Type 0) {i : ℕ} → length ms ≡ most_members → i < length xs → P (get_or (take n ms) i 0) → P (cell ms i)
+  place_told P {i} room lt p = subst P (get_or-take n ms i 0 (omega (arith, m.list.count))) p
+
+module _ {w ms : List ℕ} {n o : ℕ} where
+  pub told_by : (r : Bool) → length ms ≡ most_members → MatchBool r (AllWithin (λ x. Told w x true) (take n ms) 0 (length (take n ms)))
+      ((k : ℕ) × (k < length (take n ms)) × HoldsAt (λ x. Told w x false) (take n ms) k) → o ≡ bool_byte r → OpenIfAll w ms n o
+  told_by true room t e =
       record {
-        is = λ {q} {ns} {xs} h m a.
-            sym (ap (λ (l : List ℕ). open_if_all (attrs_of ns l)) (drop_of_length-le xs {i = i} (omega (arith, m.list.count)))) ∙ c.is h m a;
+        is = λ {q} {ns} {xs} h m sets.
+            e ∙ sym (open_from h m sets (λ i lt. place_told h m sets (λ x. Told w x true) room lt (t i 0 (omega arith) (omega (arith, m.list.count, m.list.few, length-take n ms)))) 0 (length xs) (omega arith));
+      }
+  told_by false room t e =
+      record {
+        is = λ {q} {ns} {xs} h m sets.
+            e ∙ sym (closed_from h m sets t.0 (omega (arith, t.1, m.list.count, length-take n ms)) (place_told h m sets (λ x. Told w x false) room (omega (arith, t.1, m.list.count, length-take n ms)) (t.2 0)) 0 t.0 (omega arith));
       }
 
 -- the words of a dyn
@@ -107,28 +131,30 @@ before_dyn got two more =
     more.is (omega arith) ∙ omega arith
 
 -- `write_dyn`
-module _ {w w1 : List ℕ} {t d p : ℕ} {g : Merging} (first : w1 ≡ set w p g.dyns) (e1 : p ≡ t + d) where
-  pub dyn_lacks : {r : ℕ} → g.dyns ≡ 0 → Sum d 1 r → WritesDyn w t d g w1 r
-  dyn_lacks e last =
+module _ {w : List ℕ} {t d p : ℕ} {g : Merging} (e1 : p ≡ t + d) where
+  pub dyn_lacks : {w1 : List ℕ} {r : ℕ} → g.dyn_type ≡ None → w1 ≡ set w p 0 → Sum d 1 r → WritesDyn w t d g w1 r
+  dyn_lacks e first last =
+      let none_there = ap dyns_in e in
       record {
         is = λ {dyn = dyn} {xs = xs} got h size le.
-            written_list (ap (λ (l : List ℕ). xs ++ l) (ap (λ (v : ℕ). v ∷ []) e ∙ sym (words_none dyn (sym got.dyns ∙ e))))
-            (written_more g.dyns h (omega arith) first);
-        size = λ {dyn = dyn} got le. last.is (omega arith) ∙ omega (arith, dyn_words_length dyn, got.dyns);
+            written_list (ap (λ (l : List ℕ). xs ++ l) (sym (words_none dyn (sym got.dyns ∙ none_there))))
+            (written_more 0 h (omega arith) first);
+        size = λ {dyn = dyn} got le. last.is (omega arith) ∙ omega (arith, dyn_words_length dyn, sym got.dyns ∙ none_there);
       }
 
-  pub dyn_has : {w2 : List ℕ} {o p2 r : ℕ} → w2 ≡ set w1 p2 g.dyn_type → p2 ≡ t + o → (g.dyns ≡ 0 → ⊥) → Sum d 1 o → Sum d 2 r → WritesDyn w t d g w2 r
-  dyn_has second e2 e next last =
+  pub dyn_has : {w1 w2 : List ℕ} {x o p2 r : ℕ} → g.dyn_type ≡ Some x → w1 ≡ set w p 1 → w2 ≡ set w1 p2 x → p2 ≡ t + o → Sum d 1 o → Sum d 2 r → WritesDyn w t d g w2 r
+  dyn_has {x = x} e first second e2 next last =
+      let one = ap dyns_in e in
       record {
         is = λ {dyn = dyn} {xs = xs} got h size le.
-            let one : g.dyns ≡ 1 = omega (arith, got.dyns, few_dyns dyn, e) in
-            let y = got.dyn (omega (arith, got.dyns)) in
+            let there : length (dyn_ids dyn) ≡ 1 = sym got.dyns ∙ one in
+            let y = sym (ap dyn_in e) ∙ got.dyn (omega arith) in
             let z = next.is (omega arith) in
             written_list
-            (append_snoc xs g.dyns (g.dyn_type ∷ [])
-            ∙ ap (λ (l : List ℕ). xs ++ l) (ap₂ (λ (u v : ℕ). u ∷ v ∷ []) one y ∙ sym (words_some dyn (λ v. e (got.dyns ∙ v)))))
-            (written_more g.dyn_type (written_more g.dyns h (omega arith) first) (omega (arith, length-append xs (g.dyns ∷ []))) second);
-        size = λ {dyn = dyn} got le. last.is (omega arith) ∙ omega (arith, dyn_words_length dyn, few_dyns dyn, got.dyns, e);
+            (append_snoc xs 1 (x ∷ [])
+            ∙ ap (λ (l : List ℕ). xs ++ l) (ap (λ (v : ℕ). 1 ∷ v ∷ []) y ∙ sym (words_some dyn (λ v. omega arith))))
+            (written_more x (written_more 1 h (omega arith) first) (omega (arith, length-append xs (1 ∷ []))) second);
+        size = λ {dyn = dyn} got le. last.is (omega arith) ∙ omega (arith, dyn_words_length dyn, sym got.dyns ∙ one);
       }
 
 -- `write_fields`
@@ -334,25 +360,14 @@ attrs_stay ns more (x ∷ xs) u =
     ap₂ (λ (n : rules.Node) (l : List Attr). attr_of (as_attr n) ++ l) (get_or-append ns more Bottom x u.0) (attrs_stay ns more xs u.1)
 
 -- `merged_last`
-module _ {w held : List ℕ} {h : ℕ} {d : Merged} {m n : Members} where
-  pub last_refused : {k : ℕ} {r : Listed} → d ≡ Refused k → Refuses k r → MergedLast w held h d m n w held r
-  last_refused {k} {r} e f =
-      record {
-        kept = λ c lt. refl;
-        is = λ before st {xs} {ys} a taken sets roomy few lt u.
-            let o = bind (before (λ fs d. store (merged_node (attrs_of st.nodes xs) fs d))) (λ x. give (ys ++ (x ∷ []))) in
-            subst (λ (x : Flow). AnswersFlow o w r.members x) (sym f.is)
-            (ap (λ (v : Out ℕ). bind v (λ x. give (ys ++ (x ∷ []))))
-            (subst (λ (v : Merged). AnswersMerged before [] st w held h v) e a (λ fs d. store (merged_node (attrs_of st.nodes xs) fs d))));
-      }
+node_refused : {n l : Members} {k : ℕ} → WithLast n (RefusedN k) (record { flow = RefusedF k; members = l })
+node_refused = record { is = λ o w {xs} a few lt below. ap (λ (o : Out ℕ). bind o (λ x. give (xs ++ (x ∷ [])))) a.is }
 
-  module _ {w' held' : List ℕ} {g : Merging} {q : Pass} {b : ℕ} {v : Given} {r : Listed} (e : d ≡ On g q) (other : OtherArea h g.area b)
+module _ {w held : List ℕ} {h : ℕ} {m n : Members} where
+  module _ {w' held' : List ℕ} {g : Merging} {q : Pass} {b : ℕ} {v : Given} {r : Listed} (other : OtherArea h g.area b)
       (call : StoresMerged w held b q g m w' held' v) (last : WithLast n v r) where
-    module _ (before : Then → Out ℕ) (st : State) {xs ys : List ℕ} (a : AnswersMerged before [] st w held h d) (taken : Taken m xs (length st.nodes))
+    module _ (before : Then → Out ℕ) (st : State) {xs ys : List ℕ} (here : Arrived before [] st w held h g q) (taken : Taken m xs (length st.nodes))
         (sets : AllSets st.nodes xs) (roomy : Roomy held h) (few : Few n ys) (lt : length ys < most_members) (u : Under (length st.nodes) ys) where
-      abbrev here : Arrived before [] st w held h g q
-      here = subst (λ (v : Merged). AnswersMerged before [] st w held h v) e a
-
       longer : length st.nodes ≤ length here.after.nodes
       longer = omega (arith, ap length here.nodes, length-append st.nodes here.more)
 
@@ -388,12 +403,16 @@ module _ {w held : List ℕ} {h : ℕ} {d : Merged} {m n : Members} where
           under_most (length st.nodes) (length st'.nodes) ys
           (omega (arith, longer, ap length kept.grows.nodes, length-append here.after.nodes kept.grows.more)) u))
 
-    pub last_merged : MergedLast w held h d m n w' held' r
+    pub last_merged : MergedLast w held h (On g q) m n w' held' r
     last_merged =
         record {
           kept = λ c lt. call.kept c (omega (arith, other.low));
           is = λ before st a taken sets roomy few lt u. last_answers before st a taken sets roomy few lt u;
         }
+
+  pub last_refused : {w' held' : List ℕ} {g : Merging} {q : Pass} {b k : ℕ} {l : Members} → OtherArea h g.area b → StoresMerged w held b q g m w' held' (RefusedN k)
+      → MergedLast w held h (On g q) m n w' held' (record { flow = RefusedF k; members = l })
+  last_refused other call = last_merged other call node_refused
 
 -- the sets among the members
 attr_none : (n : rules.Node) → (kind_of n ≡ 4 → ⊥) → attr_of (as_attr n) ≡ []
@@ -506,3 +525,13 @@ module _ {w : List ℕ} {q : Pass} {m sets : Members} (made : Makes (sift (of_ki
             (call.is on sound.ordered (subst (λ (n : ℕ). Taken sets (sets_in ns xs) n) on.arena.count z) a roomy)
             z a (record { room = omega (arith, roomy.room); small = roomy.small }) y.list few y.below);
       }
+
+  pub top_refused : {others : Members} {held w1 held1 : List ℕ} {h k : ℕ} {l : Members} → (sets.count ≡ 0 → ⊥) → Makes (sift (of_kind 4 false)) w m others
+      → MergesAll w held h q sets w1 held1 (Refused k) → length held1 ≡ length held → MergesSets w held h q m w1 held1 (record { flow = RefusedF k; members = l })
+  top_refused e rest call long =
+      top_merged e rest call long
+      (record {
+        kept = λ c lt. refl;
+        is = λ before st {xs} {ys} a taken sets roomy few lt u.
+            ap (λ (v : Out ℕ). bind v (λ x. give (ys ++ (x ∷ [])))) (a (λ fs d. store (merged_node (attrs_of st.nodes xs) fs d)));
+      })

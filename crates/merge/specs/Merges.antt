@@ -10,21 +10,23 @@ use Rattle.rules.specs.Types as rules
 use Rattle.rules.specs.Members.{meet_types, merge_fields, merge_dyn, merge_attrs, optional_in_all, open_if_all, attrs_of, merge_attrset_intersection}
 use Rattle.laws.specs.Sound.{Sound, Orderly, Ordered}
 use Rattle.lang_ty.specs.declared.arena.Pass.{Pass}
-use Rattle.lang_ty.specs.declared.arena.Given.{Given}
+use Rattle.lang_ty.specs.Given.{Given}
 use Rattle.lang_ty.specs.Nodes.{highest, Arena, Stands, Written, Answers as Stores}
 use Rattle.lang_ty.specs.Sets.{SetAt, Ahead}
 use Rattle.members.specs.declared.lists.Members.{Members}
-use Rattle.members.specs.declared.lists.Flow.{Flow}
-use Rattle.members.specs.declared.lists.Flow.TheVariants.{On as OnF, Refused as RefusedF}
-use Rattle.members.specs.declared.lists.Listed.{Listed}
+use Rattle.members.specs.Flow.{Flow}
+use Rattle.members.specs.Flow.{On as OnF, Refused as RefusedF}
+use Rattle.members.specs.Listed.{Listed}
 use Rattle.merge.specs.declared.Merging.{Merging}
-use Rattle.merge.specs.declared.Merged.{Merged}
-use Rattle.merge.specs.declared.Merged.TheVariants.{On, Refused}
+use Rattle.merge.specs.Merged.{Merged}
+use Rattle.merge.specs.Merged.{On, Refused}
 use Rattle.merge.specs.declared.Sieve.{Sieve}
 use Rattle.merge.specs.declared.Next.{Next}
 use Rattle.merge.specs.declared.Next.TheVariants.{Old, New, Both}
 use Rattle.members.specs.Lists.{Few, Taken, Answers, first_of}
 use Rattle.cells.specs.Placed.{Holds, Under}
+use Rattle.std.specs.Prelude.{Some, None}
+use Rattle.std.specs.Prelude as std
 use Rattle.std.proofs.Math.Option.{Option, none}
 
 -- from h on there is room for two areas of 1,024 fields
@@ -116,10 +118,14 @@ pub record MergesField (w held : List ℕ) (q : Pass) (next : Next) (a i p j b k
       → Under q.nodes (field_types fs) → Under q.nodes (field_types t.fields) → Comes next fs i t.fields j → k < most_names
       → AnswersField (next_field next (field_at fs i) (field_at t.fields j) st) (next_key next (field_at fs i) (field_at t.fields j)) st w' held held' b k r
 
--- a field is left of n or of m, and less than most are merged
-pub record GoesOn (k most i n j m : ℕ) (r : Bool) : Type 0 where
-  pub some : r ≡ true → (k < most) × ((i < n) ⊎ (j < m))
-  pub none : r ≡ false → (most ≤ k) ⊎ ((n ≤ i) × (m ≤ j))
+-- a dyn or none: how many there are, and which it is
+abbrev pub dyns_in : std.Option ℕ → ℕ
+dyns_in None = 0
+dyns_in (Some x) = 1
+
+abbrev pub dyn_in : std.Option ℕ → ℕ
+dyn_in None = 0
+dyn_in (Some x) = x
 
 -- g has the fields fs, held in its area, and the dyn d; their types are below k
 pub record Got (held : List ℕ) (g : Merging) (fs : List Field) (d : Option ℕ) (k : ℕ) : Type 0 where
@@ -127,15 +133,9 @@ pub record Got (held : List ℕ) (g : Merging) (fs : List Field) (d : Option ℕ
   pub holds : Holds held g.area (field_words fs)
   pub keys : Rise 0 most_names fs
   pub types : Under k (field_types fs)
-  pub dyns : g.dyns ≡ length (dyn_ids d)
-  pub dyn : 0 < length (dyn_ids d) → g.dyn_type ≡ get_or (dyn_ids d) 0 0
+  pub dyns : dyns_in g.dyn_type ≡ length (dyn_ids d)
+  pub dyn : 0 < length (dyn_ids d) → dyn_in g.dyn_type ≡ get_or (dyn_ids d) 0 0
   pub dyn_below : Under k (dyn_ids d)
-
-abbrev pub fields_at : Merging → ℕ → ℕ → Merging
-fields_at g n a = record { fields = n; area = a; dyns = g.dyns; dyn_type = g.dyn_type }
-
-abbrev pub dyn_at : Merging → ℕ → Merging
-dyn_at g x = record { fields = g.fields; area = g.area; dyns = 1; dyn_type = x }
 
 -- node x is the set t, with keys in order
 pub record SetNode (st : State) (q : Pass) (x : ℕ) (t : Attr) : Type 0 where

@@ -3,44 +3,40 @@
 
 ghost use Rattle.std.specs.Prelude.{◌≡◌};
 ghost use Rattle.cells.specs.Part.{part};
+ghost use Rattle.lang_ty.specs.Given.{given};
 ghost use Rattle.lang_ty.specs.Nodes.{Written};
-ghost use Rattle.merge.specs.Merges.{MergesSets, Meets, PutsField, HeldKey, HeldType, ComesNext, MergesField, old_taken, new_taken, GoesOn, fields_at, MergesFields};
-ghost use Rattle.merge.specs.Merges.{dyn_at, MergesDyn, OtherArea, MergesOne, MergesAll, OpenIfAll, WritesDyn, WritesFields, PutsIf};
+ghost use Rattle.members.specs.Flow.{flow};
+ghost use Rattle.members.specs.Listed.{listed};
+ghost use Rattle.merge.specs.Merged.{On, merged};
+ghost use Rattle.merge.specs.Merges.{MergesSets, Meets, PutsField, HeldKey, HeldType, ComesNext, MergesField, old_taken, new_taken, MergesFields};
+ghost use Rattle.merge.specs.Merges.{MergesDyn, OtherArea, MergesOne, MergesAll, OpenIfAll, WritesDyn, WritesFields, PutsIf};
 ghost use Rattle.merge.specs.Merges.{ListsKeys, Sieved, SievesKeys, SievesAll, WritesOptional, WritesFlags, StoresMerged, MergedLast};
 
 use cells::{add, at, get, place, put, set};
-use lang_ty::arena::{Given, OutputTy, Pass};
+use lang_ty::arena::{OutputTy, Pass};
 use lang_ty::attrset::Keys;
 use lang_ty::{arena, attrset, disjoint};
 use layout::WorkSlice;
-use members::lists::{Flow, Listed, Members, of_kind, refused, with_last};
+use members::lists::{Members, of_kind, with_last};
+use rules::Refusal;
+use std::cmp::Ordering;
 
 // What sets come to so far: fields held at a place, and a dyn or none.
 #[derive(Clone, Copy)]
 struct Merging {
     fields: u32,
     area: u32,
-    dyns: u32,
-    dyn_type: u32,
-}
-
-#[derive(Clone, Copy)]
-enum Merged {
-    On(Merging, Pass),
-    Refused(u32),
+    dyn_type: Option<u32>,
 }
 
 // Two types of one key: an earlier TyVar gives way, two that differ are intersected.
-fn meet_types(arena: &mut [u32], q: Pass, old: u32, new: u32) -> Given
-    ensures { Meets arena.old q old new arena.new result }
+fn meet_types(arena: &mut [u32], q: &mut Pass, old: u32, new: u32) -> Result<u32, Refusal>
+    ensures { Meets arena.old q.old old new arena.new (given result q.new) }
 {
-    if old == new {
-        return Given::Node(new, q);
+    if old == new || arena::is(arena, OutputTy::TyVar, old) {
+        return Ok(new);
     }
-    if arena::is(arena, OutputTy::TY_VAR, old) {
-        return Given::Node(new, q);
-    }
-    arena::store_both(arena, q, OutputTy::INTERSECTION, old, new)
+    arena::store_both(arena, q, OutputTy::Intersection, old, new)
 }
 
 // Key and type put at field i of the area at a.
@@ -71,250 +67,208 @@ enum Next {
     Both,
 }
 
-// The next of n held fields at a, of which i are taken, and of the m fields of the set at s, of which j are taken.
-fn next_field(words: &[u32], held: &[u32], a: u32, i: u32, n: u32, s: u32, j: u32, m: u32) -> Next
-    ensures { ComesNext words.now held.now a i n s j m result }
-{
-    if m <= j {
-        return Next::Old;
+impl Next {
+    // One where the old list's field is taken, and where the new one's is.
+    fn takes_old(self) -> u32
+        ensures { result ≡ old_taken self }
+    {
+        u32::from(matches!(self, Next::Old | Next::Both))
     }
-    if n <= i {
-        return Next::New;
+
+    fn takes_new(self) -> u32
+        ensures { result ≡ new_taken self }
+    {
+        u32::from(matches!(self, Next::New | Next::Both))
     }
-    let old = held_key(held, a, i);
-    let new = attrset::key(words, s, j);
-    if new < old {
-        return Next::New;
-    }
-    if old < new {
-        return Next::Old;
-    }
-    Next::Both
 }
 
-// Field i of those held at a, field j of the set at s, or both met, put as field k of the area at b.
+// A walk along a list of fields: where they stand, how many are taken, and how many there are.
+#[derive(Clone, Copy)]
+struct Walk {
+    at: u32,
+    taken: u32,
+    count: u32,
+}
+
+// The next of the fields held, which are the old ones, and of those of a set, which are the new ones.
+fn next_field(words: &[u32], held: &[u32], old: Walk, new: Walk) -> Next
+    ensures { ComesNext words.now held.now old.at old.taken old.count new.at new.taken new.count result }
+{
+    if new.count <= new.taken {
+        return Next::Old;
+    }
+    if old.count <= old.taken {
+        return Next::New;
+    }
+    let x = held_key(held, old.at, old.taken);
+    let y = attrset::key(words, new.at, new.taken);
+    match x.cmp(&y) {
+        Ordering::Less => Next::Old,
+        Ordering::Equal => Next::Both,
+        Ordering::Greater => Next::New,
+    }
+}
+
+// The next old field, the next new one, or both met, put as field k of the area at b.
 fn merge_field(
     arena: &mut [u32],
     held: &mut [u32],
-    q: Pass,
+    q: &mut Pass,
     next: Next,
-    a: u32,
-    i: u32,
-    s: u32,
-    j: u32,
+    old: Walk,
+    new: Walk,
     b: u32,
     k: u32,
-) -> Flow
-    ensures { MergesField arena.old held.old q next a i s j b k arena.new held.new result }
+) -> Result<(), Refusal>
+    ensures { MergesField arena.old held.old q.old next old.at old.taken new.at new.taken b k arena.new held.new (flow result q.new) }
 {
-    let old = held_type(held, a, i);
-    let new = attrset::field_type(arena, s, j);
+    let x = held_type(held, old.at, old.taken);
+    let y = attrset::field_type(arena, new.at, new.taken);
     match next {
-        Next::Old => {
-            put_field(held, b, k, held_key(held, a, i), old);
-            Flow::On(q)
+        Next::Old => put_field(held, b, k, held_key(held, old.at, old.taken), x),
+        Next::New => put_field(held, b, k, attrset::key(arena, new.at, new.taken), y),
+        Next::Both => {
+            let z = meet_types(arena, q, x, y)?;
+            put_field(held, b, k, held_key(held, old.at, old.taken), z);
         }
-        Next::New => {
-            put_field(held, b, k, attrset::key(arena, s, j), new);
-            Flow::On(q)
-        }
-        Next::Both => match meet_types(arena, q, old, new) {
-            Given::Node(x, r) => {
-                put_field(held, b, k, held_key(held, a, i), x);
-                Flow::On(r)
-            }
-            Given::Refused(why) => Flow::Refused(why),
-        },
     }
-}
-
-// One where the old list's field is taken, and where the new one's is.
-fn takes_old(next: Next) -> u32
-    ensures { result ≡ old_taken next }
-{
-    match next {
-        Next::Old => 1,
-        Next::New => 0,
-        Next::Both => 1,
-    }
-}
-
-fn takes_new(next: Next) -> u32
-    ensures { result ≡ new_taken next }
-{
-    match next {
-        Next::Old => 0,
-        Next::New => 1,
-        Next::Both => 1,
-    }
-}
-
-// Whether a field is left, of n held ones of which i are taken or of the set's m of which j are; k of most are merged.
-fn goes_on(k: u32, most: u32, i: u32, n: u32, j: u32, m: u32) -> bool
-    ensures { GoesOn k most i n j m result }
-{
-    if most <= k {
-        return false;
-    }
-    if i < n {
-        return true;
-    }
-    j < m
-}
-
-// g with n fields at a.
-fn with_fields(g: Merging, n: u32, a: u32) -> Merging
-    ensures { result ≡ fields_at g n a }
-{
-    Merging {
-        fields: n,
-        area: a,
-        dyns: g.dyns,
-        dyn_type: g.dyn_type,
-    }
+    Ok(())
 }
 
 // The fields of g merged by key with those of node x, a set, into the area at b.
-fn merge_fields(arena: &mut [u32], held: &mut [u32], p: Pass, g: Merging, x: u32, b: u32) -> Merged
-    ensures { MergesFields arena.old held.old p g x b arena.new held.new result }
+fn merge_fields(
+    arena: &mut [u32],
+    held: &mut [u32],
+    q: &mut Pass,
+    g: Merging,
+    x: u32,
+    b: u32,
+) -> Result<Merging, Refusal>
+    ensures { MergesFields arena.old held.old q.old g x b arena.new held.new (merged result q.new) }
 {
-    let a = g.area;
     let n = g.fields;
     let m = attrset::fields(arena, disjoint::set_place(arena, x));
     let most = add(n, m);
-    let mut q = p;
     let mut i = 0;
     let mut j = 0;
     let mut k = 0;
-    while goes_on(k, most, i, n, j, m) {
-        let s = disjoint::set_place(arena, x);
-        let next = next_field(arena, held, a, i, n, s, j, m);
-        match merge_field(arena, held, q, next, a, i, s, j, b, k) {
-            Flow::On(r) => {
-                q = r;
-                i = add(i, takes_old(next));
-                j = add(j, takes_new(next));
-                k += 1;
-            }
-            Flow::Refused(why) => {
-                return Merged::Refused(why);
-            }
-        }
+    // k < most ends the walk in any slice.
+    while k < most && (i < n || j < m) {
+        let old = Walk {
+            at: g.area,
+            taken: i,
+            count: n,
+        };
+        let new = Walk {
+            at: disjoint::set_place(arena, x),
+            taken: j,
+            count: m,
+        };
+        let next = next_field(arena, held, old, new);
+        merge_field(arena, held, q, next, old, new, b, k)?;
+        i = add(i, next.takes_old());
+        j = add(j, next.takes_new());
+        k += 1;
     }
-    Merged::On(with_fields(g, k, b), q)
-}
-
-fn with_dyn(g: Merging, x: u32) -> Merging
-    ensures { result ≡ dyn_at g x }
-{
-    Merging {
-        fields: g.fields,
-        area: g.area,
-        dyns: 1,
-        dyn_type: x,
-    }
+    Ok(Merging {
+        fields: k,
+        area: b,
+        ..g
+    })
 }
 
 // The dyn of g with that of the set at s.
-fn merge_dyn(arena: &mut [u32], q: Pass, g: Merging, s: u32) -> Merged
-    ensures { MergesDyn arena.old q g s arena.new result }
+fn merge_dyn(arena: &mut [u32], q: &mut Pass, g: Merging, s: u32) -> Result<Merging, Refusal>
+    ensures { MergesDyn arena.old q.old g s arena.new (merged result q.new) }
 {
     if attrset::dyns(arena, s) == 0 {
-        return Merged::On(g, q);
+        return Ok(g);
     }
-    let old = g.dyn_type;
     let new = attrset::dyn_type(arena, s);
-    if g.dyns == 0 {
-        return Merged::On(with_dyn(g, new), q);
-    }
+    let Some(old) = g.dyn_type else {
+        return Ok(Merging {
+            dyn_type: Some(new),
+            ..g
+        });
+    };
     if old == new {
-        return Merged::On(with_dyn(g, new), q);
+        return Ok(g);
     }
-    match arena::store_both(arena, q, OutputTy::INTERSECTION, old, new) {
-        Given::Node(x, r) => Merged::On(with_dyn(g, x), r),
-        Given::Refused(k) => Merged::Refused(k),
-    }
+    let x = arena::store_both(arena, q, OutputTy::Intersection, old, new)?;
+    Ok(Merging {
+        dyn_type: Some(x),
+        ..g
+    })
 }
 
 // The one of the two areas from h on that is not at a.
 fn other_area(h: u32, a: u32) -> u32
     ensures { OtherArea h a result }
 {
-    if a == h {
-        return add(h, WorkSlice::AREA);
-    }
-    h
+    if a == h { add(h, WorkSlice::AREA) } else { h }
 }
 
 // g with the set of node x: dyn first, then the fields in key order. The fields move between the areas at h and after it.
-fn merge_one(arena: &mut [u32], held: &mut [u32], h: u32, q: Pass, g: Merging, x: u32) -> Merged
-    ensures { MergesOne arena.old held.old h q g x arena.new held.new result }
+fn merge_one(
+    arena: &mut [u32],
+    held: &mut [u32],
+    h: u32,
+    q: &mut Pass,
+    g: Merging,
+    x: u32,
+) -> Result<Merging, Refusal>
+    ensures { MergesOne arena.old held.old h q.old g x arena.new held.new (merged result q.new) }
 {
     let s = disjoint::set_place(arena, x);
-    let first = merge_dyn(arena, q, g, s);
-    match first {
-        Merged::On(d, r) => {
-            let b = other_area(h, d.area);
-            merge_fields(arena, held, r, d, x, b)
-        }
-        Merged::Refused(k) => Merged::Refused(k),
-    }
+    let d = merge_dyn(arena, q, g, s)?;
+    let b = other_area(h, d.area);
+    merge_fields(arena, held, q, d, x, b)
 }
 
 // The sets among the members, merged one after another.
-fn merge_sets(arena: &mut [u32], held: &mut [u32], h: u32, p: Pass, sets: Members) -> Merged
-    ensures { MergesAll arena.old held.old h p sets arena.new held.new result }
+fn merge_sets(
+    arena: &mut [u32],
+    held: &mut [u32],
+    h: u32,
+    q: &mut Pass,
+    sets: &Members,
+) -> Result<Merging, Refusal>
+    ensures { MergesAll arena.old held.old h q.old sets.now arena.new held.new (merged result q.new) }
 {
-    let ms = sets.at;
-    let n = sets.count;
     let mut g = Merging {
         fields: 0,
         area: h,
-        dyns: 0,
-        dyn_type: 0,
+        dyn_type: None,
     };
-    let mut q = p;
-    let mut i = 0;
-    while i < n {
-        match merge_one(arena, held, h, q, g, at(&ms, i)) {
-            Merged::On(d, r) => {
-                g = d;
-                q = r;
-                i += 1;
-            }
-            Merged::Refused(k) => {
-                return Merged::Refused(k);
-            }
-        }
+    for i in 0..sets.count {
+        g = merge_one(arena, held, h, q, g, at(&sets.at, i))?;
     }
-    Merged::On(g, q)
+    Ok(g)
 }
 
 // 1 if all of the sets are open.
-fn open_if_all(arena: &[u32], s: &[u32], n: u32) -> u32
-    ensures { OpenIfAll arena.now s.now n result }
+fn open_if_all(arena: &[u32], sets: &Members) -> u32
+    ensures { OpenIfAll arena.now sets.now.at sets.now.count result }
 {
-    let mut i = 0;
-    while i < n {
-        let a = disjoint::set_place(arena, at(s, i));
-        if attrset::open(arena, a) != 1 {
-            return 0;
-        }
-        i += 1;
-    }
-    1
+    let is_open = |x: &u32| attrset::open(arena, disjoint::set_place(arena, *x)) == 1;
+    u32::from(sets.at.iter().take(sets.count as usize).all(is_open))
 }
 
 // The dyn of g written after the d words from t on; how many words there are then.
 fn write_dyn(words: &mut [u32], t: u32, d: u32, g: Merging) -> u32
     ensures { WritesDyn words.old t d g words.new result }
 {
-    put(words, place(t, d), g.dyns);
-    if g.dyns == 0 {
-        return add(d, 1);
+    match g.dyn_type {
+        None => {
+            put(words, place(t, d), 0);
+            add(d, 1)
+        }
+        Some(x) => {
+            put(words, place(t, d), 1);
+            put(words, place(t, add(d, 1)), x);
+            add(d, 2)
+        }
     }
-    put(words, place(t, add(d, 1)), g.dyn_type);
-    add(d, 2)
 }
 
 // Kind, fields and dyn of a set written from t on; how many words that are.
@@ -322,7 +276,7 @@ fn write_fields(words: &mut [u32], t: u32, held: &[u32], g: Merging) -> u32
     ensures { WritesFields words.old t held.now g words.new result }
 {
     let n = add(g.fields, g.fields);
-    set(words, t, OutputTy::ATTR_SET);
+    set(words, t, OutputTy::AttrSet.number());
     put(words, place(t, 1), g.fields);
     arena::copy(words, add(t, 2), held, g.area, n);
     write_dyn(words, t, add(n, 2), g)
@@ -343,11 +297,9 @@ fn put_if(words: &mut [u32], o: u32, k: u32, x: u32, kept: bool) -> u32
 fn list_keys(held: &mut [u32], a: u32, n: u32, b: u32)
     ensures { ListsKeys held.old a n b held.new }
 {
-    let mut i = 0;
-    while i < n {
+    for i in 0..n {
         let key = held_key(held, a, i);
         put(held, place(b, i), key);
-        i += 1;
     }
 }
 
@@ -363,17 +315,15 @@ struct Sieve {
 fn sieved(words: &[u32], s: Sieve, key: u32) -> Sieve
     ensures { Sieved words.now s key result }
 {
-    let before = s.fields;
-    let fields = attrset::keys_from(words, before, 2, key);
-    let left = s.optional;
+    let fields = attrset::keys_from(words, s.fields, 2, key);
     if !attrset::starts(words, fields, key) {
         return Sieve {
             fields,
-            optional: left,
             stays: true,
+            ..s
         };
     }
-    let optional = attrset::keys_from(words, left, 1, key);
+    let optional = attrset::keys_from(words, s.optional, 1, key);
     let stays = attrset::starts(words, optional, key);
     Sieve {
         fields,
@@ -393,26 +343,22 @@ fn sieve_keys(words: &[u32], held: &mut [u32], b: u32, n: u32, a: u32) -> u32
         stays: true,
     };
     let mut k = 0;
-    let mut i = 0;
-    while i < n {
+    for i in 0..n {
         let key = get(held, place(b, i));
         s = sieved(words, s, key);
         k = put_if(held, b, k, key, s.stays);
-        i += 1;
     }
     k
 }
 
-// The same for each of c sets: a key is optional only if every set allows that.
-fn sieve_all(arena: &[u32], held: &mut [u32], b: u32, n: u32, s: &[u32], c: u32) -> u32
-    ensures { SievesAll arena.now held.old b n s.now c held.new result }
+// The same for each of the sets: a key is optional only if every set allows that.
+fn sieve_all(arena: &[u32], held: &mut [u32], b: u32, n: u32, sets: &Members) -> u32
+    ensures { SievesAll arena.now held.old b n sets.now.at sets.now.count held.new result }
 {
     let mut k = n;
-    let mut i = 0;
-    while i < c {
-        let a = disjoint::set_place(arena, at(s, i));
+    for i in 0..sets.count {
+        let a = disjoint::set_place(arena, at(&sets.at, i));
         k = sieve_keys(arena, held, b, k, a);
-        i += 1;
     }
     k
 }
@@ -425,13 +371,12 @@ fn write_optional(
     held: &mut [u32],
     b: u32,
     g: Merging,
-    sets: Members,
+    sets: &Members,
 ) -> u32
-    ensures { WritesOptional arena.old o held.old b g sets arena.new held.new result }
+    ensures { WritesOptional arena.old o held.old b g sets.now arena.new held.new result }
 {
-    let s = sets.at;
     list_keys(held, g.area, g.fields, b);
-    let k = sieve_all(arena, held, b, g.fields, &s, sets.count);
+    let k = sieve_all(arena, held, b, g.fields, sets);
     arena::copy(arena, o, held, b, k);
     k
 }
@@ -444,9 +389,9 @@ fn write_flags(
     held: &mut [u32],
     b: u32,
     g: Merging,
-    sets: Members,
+    sets: &Members,
 ) -> u32
-    ensures { WritesFlags arena.old o flag held.old b g sets arena.new held.new result }
+    ensures { WritesFlags arena.old o flag held.old b g sets.now arena.new held.new result }
 {
     set(arena, o, flag);
     let k = write_optional(arena, add(o, 2), held, b, g, sets);
@@ -459,15 +404,14 @@ fn store_merged(
     arena: &mut [u32],
     held: &mut [u32],
     b: u32,
-    q: Pass,
+    q: &mut Pass,
     g: Merging,
-    sets: Members,
-) -> Given
-    ensures { StoresMerged arena.old held.old b q g sets arena.new held.new result }
+    sets: &Members,
+) -> Result<u32, Refusal>
+    ensures { StoresMerged arena.old held.old b q.old g sets.now arena.new held.new (given result q.new) }
 {
-    let s = sets.at;
     let t = arena::top(arena, q);
-    let open = open_if_all(arena, &s, sets.count);
+    let open = open_if_all(arena, sets);
     let len = write_fields(arena, t, held, g);
     let k = write_flags(arena, add(t, len), open, held, b, g, sets);
     arena::intern(
@@ -483,20 +427,16 @@ fn merged_last(
     arena: &mut [u32],
     held: &mut [u32],
     h: u32,
-    d: Merged,
-    sets: Members,
+    q: &mut Pass,
+    g: Merging,
+    sets: &Members,
     others: Members,
-) -> Listed
-    ensures { MergedLast arena.old held.old h d sets others arena.new held.new result }
+) -> Result<Members, Refusal>
+    ensures { MergedLast arena.old held.old h (On g q.old) sets.now others arena.new held.new (listed result q.new) }
 {
-    match d {
-        Merged::On(g, q) => {
-            let b = other_area(h, g.area);
-            let stored = store_merged(arena, held, b, q, g, sets);
-            with_last(others, stored)
-        }
-        Merged::Refused(k) => refused(k),
-    }
+    let b = other_area(h, g.area);
+    let x = store_merged(arena, held, b, q, g, sets)?;
+    Ok(with_last(others, x))
 }
 
 // merge_attrset_intersection: the sets become one, last; held from h on is free for their fields.
@@ -504,19 +444,16 @@ pub fn merge_attrset_intersection(
     arena: &mut [u32],
     held: &mut [u32],
     h: u32,
-    q: Pass,
+    q: &mut Pass,
     m: Members,
-) -> Listed
-    ensures { MergesSets arena.old held.old h q m arena.new held.new result }
+) -> Result<Members, Refusal>
+    ensures { MergesSets arena.old held.old h q.old m arena.new held.new (listed result q.new) }
 {
-    let sets = of_kind(arena, m, OutputTy::ATTR_SET, true);
+    let sets = of_kind(arena, m, OutputTy::AttrSet, true);
     if sets.count == 0 {
-        return Listed {
-            flow: Flow::On(q),
-            members: m,
-        };
+        return Ok(m);
     }
-    let others = of_kind(arena, m, OutputTy::ATTR_SET, false);
-    let d = merge_sets(arena, held, h, q, sets);
-    merged_last(arena, held, h, d, sets, others)
+    let others = of_kind(arena, m, OutputTy::AttrSet, false);
+    let g = merge_sets(arena, held, h, q, &sets)?;
+    merged_last(arena, held, h, q, g, &sets, others)
 }

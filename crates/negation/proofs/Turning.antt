@@ -1,4 +1,4 @@
--- Negation: what is counted, what is stored, what is remembered, and the loop over the members. Assumes nothing.
+-- Negation: what is stored, what is remembered, and the loop over the members. Assumes nothing.
 use mathlib.Core.Path.{◌≡◌, refl, sym, ap, ap₂, ◌∙◌, subst}
 use mathlib.Core.Bool.{Bool, true, false}
 use mathlib.Core.Logic.{⊎_elim}
@@ -6,17 +6,17 @@ use Prim.Native.Nat.{ℕ, zero, suc, ◌+◌, ◌-◌, ◌≤◌, ◌<◌}
 use native.Mathlib.Omega.{arith}
 use native.Mathlib.Nat.{not-suc-le-zero, eq-zero-or-pos}
 use native.Mathlib.Numerals.{add-one}
-use mathlib.Core.List.{List, [], ◌∷◌, ◌++◌, map, append-nil, append_assoc}
+use mathlib.Core.List.{List, [], ◌∷◌, ◌++◌, append-nil, append_assoc}
 use lib.ListN.{length, get_or, set, drop, length-append, length-set, drop_of_length-le, get_or-append}
 use lib.Seq.{drop-cons, get_or-set_same, get_or-set_other}
-use lib.Dec.{eqb, ltb}
+use lib.Dec.{eqb}
 use borrow.Author.Tests.{eqb-true, eqb-false, ne_eqb}
-use Rattle.cells.specs.Part.{cell, part, if, eq_list}
+use Rattle.cells.specs.Part.{cell, part, if}
 use Rattle.cells.specs.Sum.{Sum}
 use Rattle.cells.specs.Clears.{Clears}
 use Rattle.cells.proofs.Parts.{run_ext, part_set_snoc}
-use Rattle.layout.specs.Layout.{counted_cells, counted_nodes, held_at, negated_at}
-use Rattle.rules.specs.Ceilings.{most_members, most_nodes, most_cells}
+use Rattle.layout.specs.Layout.{held_at, negated_at}
+use Rattle.rules.specs.Ceilings.{most_nodes}
 use Rattle.rules.specs.Types.{State, Out, ok, no, Run, bind, give, grown, keep, encode, kind_of, members, children, cells_of, node_at, store, TyVar, Primitive, ListOf}
 use Rattle.rules.specs.Types.{Lambda, AttrSet, Union, Intersection, Named, Neg, Bottom, Top}
 use Rattle.rules.specs.Types as rules
@@ -24,82 +24,18 @@ use Rattle.rules.specs.Members.{each, negate_node, negate_by, negate_output_ty}
 use Rattle.laws.proofs.Rows.{by_kind}
 use Rattle.laws.proofs.Rooting.{members_children}
 use Rattle.laws.proofs.Storing.{store_keeps}
-use Rattle.laws.proofs.Keeping.{bind_none, bind_more}
+use Rattle.laws.proofs.Keeping.{bind_none, bind_more, keeps_negate_by}
 use Rattle.laws.proofs.Negating.{Begins, negate_by_again}
 use Rattle.lang_ty.specs.declared.arena.Pass.{Pass}
-use Rattle.lang_ty.specs.declared.arena.Given.{Given}
-use Rattle.lang_ty.specs.declared.arena.Given.TheVariants.{Node as NodeG, Refused as RefusedG}
+use Rattle.lang_ty.specs.Given.{Given, Node, Refused}
 use Rattle.lang_ty.specs.Nodes.{Stands, Gives, Answers, Word, Kind, Is, Count, Member, Lists, Stored, Listed}
-use Rattle.lang_ty.proofs.Words.{arena_pass, neg_at}
-use Rattle.negation.specs.declared.Negated.{Negated}
-use Rattle.negation.specs.declared.Negated.TheVariants.{Node, Refused}
-use Rattle.negation.specs.Negations.{pass_in, counting, Counted, Entered, Turns, members_up_to, Negatable, KeptBut, Negation, ComesAgain, Remembers, NegationNoted}
-use Rattle.negation.specs.Negations.{AnswersCounted, turned_node, StoresNegation, NegatesSingle, Recalled, Noted, Forgotten, Forgets, Negates, NegatesOutput}
+use Rattle.lang_ty.proofs.Words.{neg_at}
+use Rattle.negation.specs.Negations.{Turns, members_up_to, Negatable, KeptBut, ComesAgain, Remembers, NegationNoted}
+use Rattle.negation.specs.Negations.{AnswersNoted, AnswersGiven, turned_node, negations, StoresNegation, NegatesSingle, Recalls, Recalled, Noted, Notes, Completes, Forgotten, Forgets, Negates, NegatesOutput}
 use Rattle.laws.proofs.Filtering.{under_at, under_both, under_most}
 use Rattle.cells.specs.Placed.{Under}
-use mathlib.Core.Option.{Option, some, none}
-use Rattle.rules.specs.Plain.{find}
-
--- a state with no marks, and one with those of another
-abbrev unmarked : State → State
-unmarked st = record { nodes = st.nodes; cells = st.cells; keys = st.keys; bits = st.bits; ops = 0; sorted = false; bailed = false }
-
-abbrev marked : State → State → State
-marked st st' = record { nodes = st'.nodes; cells = st'.cells; keys = st'.keys; bits = st'.bits; ops = st.ops; sorted = st.sorted; bailed = st.bailed }
-
-abbrev remarked : State → Out ℕ → Out ℕ
-remarked st (ok x st') = ok x (marked st st')
-remarked st (no k) = no k
-
-abbrev behind : Bool → Bool → rules.Node → State → Out ℕ
-behind room over n st = if room (λ _. if over (λ _. no 9) (λ _. ok (length st.nodes) (grown n st))) (λ _. no 8)
-
-behind_marks : (b c : Bool) (n : rules.Node) (st : State) → behind b c n st ≡ remarked st (behind b c n (unmarked st))
-behind_marks true true n st = refl
-behind_marks true false n st = refl
-behind_marks false c n st = refl
-
-keep_marks : (n : rules.Node) (st : State) (f : Option ℕ) → keep n st f ≡ remarked st (keep n (unmarked st) f)
-keep_marks n st (some i) = refl
-keep_marks n st none = behind_marks (ltb (length st.nodes) most_nodes) (ltb most_cells (st.cells + cells_of n)) n st
-
-few_marks : (b : Bool) (n : rules.Node) (st : State) (f : Option ℕ) → if b (λ _. no 7) (λ _. keep n st f) ≡ remarked st (if b (λ _. no 7) (λ _. keep n (unmarked st) f))
-few_marks true n st f = refl
-few_marks false n st f = keep_marks n st f
-
--- the store reads no marks
-store_marks : (n : rules.Node) (st : State) → store n st ≡ remarked st (store n (unmarked st))
-unfolding store
-store_marks n st = few_marks (ltb most_members (length (members n))) n st (find (eq_list (encode n)) 0 (map encode st.nodes))
-
--- p's nodes and cells with q's marks
-stands_counted : {st : State} {w : List ℕ} {q : Pass} (p : Pass) → q.nodes ≡ p.nodes → q.cells ≡ p.cells → Stands st w q
-    → Stands st w (record { nodes = p.nodes; cells = p.cells; ops = q.ops; sorted = q.sorted; bailed = q.bailed })
-stands_counted p e f on = record { arena = arena_pass e f on.arena; cells = on.cells ∙ f; ops = on.ops; sorted = on.sorted; bailed = on.bailed }
-
-module _ (held : List ℕ) {held' : List ℕ} (q : Pass) (e : held' ≡ counting held q) where
-  counting_nodes : held_at ≤ length held → cell held' counted_nodes ≡ q.nodes
-  counting_nodes h =
-      ap (λ (l : List ℕ). cell l counted_nodes) e ∙ get_or-set_other (set held counted_nodes q.nodes) counted_cells counted_nodes q.cells 0 (λ z. omega arith)
-      ∙ get_or-set_same held counted_nodes q.nodes 0 (omega arith)
-
-  counting_cells : held_at ≤ length held → cell held' counted_cells ≡ q.cells
-  counting_cells h =
-      ap (λ (l : List ℕ). cell l counted_cells) e ∙ get_or-set_same (set held counted_nodes q.nodes) counted_cells q.cells 0 (omega (arith, length-set held counted_nodes q.nodes))
-
-  counting_other : (k : ℕ) → (k ≡ counted_nodes → ⊥) → (k ≡ counted_cells → ⊥) → cell held' k ≡ cell held k
-  counting_other k a b =
-      ap (λ (l : List ℕ). cell l k) e ∙ get_or-set_other (set held counted_nodes q.nodes) counted_cells k q.cells 0 b ∙ get_or-set_other held counted_nodes k q.nodes 0 a
-
--- `count` and `stored`
-pub counting_is : (held : List ℕ) {held1 held2 : List ℕ} (q : Pass) → held1 ≡ set held counted_nodes q.nodes → held2 ≡ set held1 counted_cells q.cells → held2 ≡ counting held q
-counting_is held q e f = f ∙ ap (λ (l : List ℕ). set l counted_cells q.cells) e
-
-pub entered_node : {held held' : List ℕ} {g : Given} {x : ℕ} {q : Pass} → g ≡ NodeG x q → held' ≡ counting held q → Entered held held' g (Node x)
-entered_node {held} {held'} {g} {x} {q} e f = subst (λ (v : Given). Entered held held' v (Node x)) (sym e) (record { is = (refl, f) })
-
-pub entered_refused : {held : List ℕ} {g : Given} {k : ℕ} → g ≡ RefusedG k → Entered held held g (Refused k)
-entered_refused {held} {g} {k} e = subst (λ (v : Given). Entered held held v (Refused k)) (sym e) (record { is = refl })
+use Rattle.std.proofs.Common.{Option, Some, None}
+use Rattle.std.specs.Option.{SomeIff}
 
 -- a node that turned over lists the negations of its members; any other is wrapped
 module _ {k kind : ℕ} (x : ℕ) (xs : List ℕ) (t : Turns k kind) where
@@ -118,18 +54,6 @@ module _ {k kind : ℕ} (x : ℕ) (xs : List ℕ) (t : Turns k kind) where
   turned_wraps e =
       ap₂ (λ (b c : Bool). if b (λ _. Intersection xs) (λ _. if c (λ _. Union xs) (λ _. Neg x)))
       (ne_eqb k 5 (λ z. omega (arith, t.union z))) (ne_eqb k 6 (λ z. omega (arith, t.intersection z)))
-
--- `store_negation`
-module _ {w held : List ℕ} {p : Pass} (c : Counted held p) where
-  unmarked_stands : {st : State} (q : Pass) → Stands st w (pass_in held q) → Stands (unmarked st) w p
-  unmarked_stands q on =
-      record {
-        arena = arena_pass (sym c.nodes) (sym c.cells) on.arena;
-        cells = on.cells ∙ sym c.cells;
-        ops = sym c.ops;
-        sorted = sym c.sorted;
-        bailed = sym c.bailed;
-      }
 
 -- each node's members are below it
 below_top : {st : State} {w : List ℕ} {q : Pass} {top : ℕ} → Stands st w q → top ≤ length st.nodes → (i : ℕ) → i < top → Under i (members (node_at st.nodes i))
@@ -154,60 +78,40 @@ remembers_more {st} {st'} {top = top} m on begins =
           };
     }
 
-module _ (w held w' held' : List ℕ) (h x : ℕ) (st : State) (q : Pass) (top : ℕ) (m : rules.Node) (b : Negatable st w (pass_in held q) held h x) (mem : Remembers st held top) where
-  answered : (v : Given) (z : Negated) → Answers (store m (unmarked st)) w' v → Entered held held' v z → AnswersCounted (store m st) st w' q h top held held' z
-  answered (NodeG y p') (Node z) given e =
-      let a : Gives (store m (unmarked st)) w' y p' = given.is in
-      let kept = store_keeps m (unmarked st) y a.after a.is in
-      let long : held_at ≤ length held = omega (arith, b.behind, b.room) in
-      let on : Stands (marked st a.after) w' (pass_in held' q) =
-      record {
-        arena = arena_pass (sym (counting_nodes held p' e.is.1 long)) (sym (counting_cells held p' e.is.1 long)) a.stands.arena;
-        cells = a.stands.cells ∙ sym (counting_cells held p' e.is.1 long);
-        ops = b.stands.ops;
-        sorted = b.stands.sorted;
-        bailed = b.stands.bailed;
-      } in
-      record {
-        negation = record {
-          after = marked st a.after;
-          more = kept.grows.more;
-          is = store_marks m st ∙ ap (remarked st) a.is ∙ ap (λ (v : ℕ). ok v (marked st a.after)) e.is.0;
-          stands = on;
-          nodes = kept.grows.nodes;
-          below = subst (λ (v : ℕ). v < length a.after.nodes) e.is.0 a.below;
-          kept = λ k lt l. counting_other held p' e.is.1 k (λ z. omega (arith, l (omega arith))) (λ z. omega (arith, l (omega arith)));
-        };
-        remembers = remembers_same (remembers_more mem on (record { more = kept.grows.more; nodes = kept.grows.nodes }))
-            (λ k lt. counting_other held p' e.is.1 (negated_at + k) (λ z. omega arith) (λ z. omega arith));
-      }
-  answered (NodeG y p') (Refused k) a e = absurd e.is
-  answered (RefusedG j) (Node z) a e = absurd e.is
-  answered (RefusedG j) (Refused k) a e = store_marks m st ∙ ap (remarked st) a.is ∙ ap no e.is
+-- a step that only stores leaves what is remembered
+noted_by : {o : Out ℕ} {st : State} {w' held : List ℕ} {top : ℕ} (h : ℕ) → Remembers st held top → ((y : ℕ) (st' : State) → o ≡ ok y st' → Begins st st') → (r : Given) → Answers o w' r
+    → AnswersNoted o st w' h top held held r
+noted_by h mem begins (Node y q) a =
+    let g = a.is in
+    let l = begins y g.after g.is in
+    record {
+      negation = record { after = g.after; more = l.more; is = g.is; stands = g.stands; nodes = l.nodes; below = g.below; kept = λ k lt b. refl };
+      remembers = remembers_more mem g.stands l;
+    }
+noted_by h mem begins (Refused k) a = a.is
 
-module _ {w held w' held' : List ℕ} {h x n k kind : ℕ} {p : Pass} {g : Given} {r : Negated}
-    (is : Kind w x k) (t : Turns k kind) (c : Counted held p) (i : Entered held held' g r) where
-  pub negation_wraps : kind ≡ 8 → Stored (8 ∷ x ∷ []) 0 w p w' g → StoresNegation w held h x n w' held' r
+-- `store_negation`
+module _ {w held w' : List ℕ} {h x k kind : ℕ} {q : Pass} {r : Given} (is : Kind w x k) (t : Turns k kind) where
+  pub negation_wraps : kind ≡ 8 → Stored (8 ∷ x ∷ []) 0 w q w' r → StoresNegation w held h q x w' r
   negation_wraps e a =
       record {
-        is = λ {st} q top b mem u.
-            let z = is.is b.stands.arena b.known in
-            let turned = ap (turned_node (part held h n) x) (sym z) ∙ turned_wraps x (part held h n) t e in
-            let lt : x < p.nodes = omega (arith, b.known, b.stands.arena.count, c.nodes) in
-            subst (λ (m : rules.Node). AnswersCounted (store m st) st w' q h top held held' r) (sym turned)
-            (answered w held w' held' h x st q top (Neg x) b mem g r
-            (a.is {n = Neg x} (unmarked_stands c q b.stands) (record { cells = refl; few = omega arith; below = (lt, tt); ordered = tt; short = omega arith }) refl) i);
+        is = λ {st} on known u.
+            let all = negations st.nodes held h x in
+            let turned = ap (turned_node all x) (sym (is.is on.arena known)) ∙ turned_wraps x all t e in
+            let lt : x < q.nodes = omega (arith, known, on.arena.count) in
+            subst (λ (m : rules.Node). Answers (store m st) w' r) (sym turned)
+            (a.is {n = Neg x} on (record { cells = refl; few = omega arith; below = (lt, tt); ordered = tt; short = omega arith }) refl);
       }
 
-  pub negation_turns : (kind ≡ 8 → ⊥) → Listed kind held h n w p w' g → StoresNegation w held h x n w' held' r
-  negation_turns e a =
+  pub negation_turns : {n : ℕ} → (kind ≡ 8 → ⊥) → Count w x n → Listed kind held h n w q w' r → StoresNegation w held h q x w' r
+  negation_turns e count a =
       record {
-        is = λ {st} q top b mem u.
-            let z = is.is b.stands.arena b.known in
-            let all = part held h n in
-            let u' = subst (λ (j : ℕ). Under j all) (b.stands.arena.count ∙ sym c.nodes) u in
-            answered w held w' held' h x st q top (turned_node all x (kind_of (node_at st.nodes x))) b mem g r
-            (a.is (unmarked_stands c q b.stands) (subst (λ (j : ℕ). Lists (turned_node all x j) kind all p.nodes) z (turned_lists x all t e u'))) i;
+        is = λ {st} on known u.
+            let all = negations st.nodes held h x in
+            let made = turned_node all x (kind_of (node_at st.nodes x)) in
+            let u' = subst (λ (j : ℕ). Under j all) on.arena.count u in
+            a.is on (subst (λ (j : ℕ). Lists made kind (part held h j) q.nodes) (sym (count.is on.arena known))
+            (subst (λ (j : ℕ). Lists (turned_node all x j) kind all q.nodes) (is.is on.arena known) (turned_lists x all t e u')));
       }
 
 -- the members of the nodes below, and of nodes that are followed by more
@@ -235,44 +139,37 @@ turned_over f x (Neg a) st h = absurd (h refl)
 turned_over f x Bottom st h = refl
 turned_over f x Top st h = refl
 
--- a node that the rules give with nothing stored
-noted_same : {o : Out ℕ} {st : State} {w held : List ℕ} (q : Pass) {h x top y : ℕ} → Negatable st w (pass_in held q) held h x → Remembers st held top
-    → o ≡ ok y st → y < length st.nodes → NegationNoted o st w (pass_in held q) h top held held y
-noted_same {st = st} q n mem e lt =
-    record {
-      negation = record { after = st; more = []; is = e; stands = n.stands; nodes = sym (append-nil st.nodes); below = lt; kept = λ k l b. refl };
-      remembers = mem;
-    }
-
 -- `negate_single`: a Neg comes off, what is no Neg is wrapped
-module _ {w held : List ℕ} {h x r : ℕ} {b : Bool} (is : Is w 8 x b) (t : b ≡ true) (inner : Word w x 1 r) where
-  comes_off : {st : State} (q : Pass) (f top : ℕ) → x < f → Negatable st w (pass_in held q) held h x → Remembers st held top
-      → NegationNoted (negate_by f x st) st w (pass_in held q) h top held held r
-  comes_off q zero top lt n mem = absurd (not-suc-le-zero lt)
-  comes_off {st} q (suc f) top lt n mem =
-      let a = n.stands.arena in
+module _ {w : List ℕ} {x r : ℕ} {q : Pass} {b : Bool} (is : Is w 8 x b) (t : b ≡ true) (inner : Word w x 1 r) where
+  comes_off : {st : State} (f : ℕ) → x < f → Stands st w q → x < length st.nodes → Gives (negate_by f x st) w r q
+  comes_off zero lt on known = absurd (not-suc-le-zero lt)
+  comes_off {st} (suc f) lt on known =
       let node = node_at st.nodes x in
-      let kind : kind_of node ≡ 8 = eqb-true (kind_of node) 8 (sym (is.is a n.known) ∙ t) in
-      let neg : Neg r ≡ node = neg_at a n.known kind inner in
-      noted_same q n mem (ap (λ (m : rules.Node). negate_node (negate_by f) x m st) (sym neg))
-      (omega (arith, n.known, (subst (λ (m : rules.Node). Under x (children m)) (sym neg) (a.below x n.known)).0))
+      let kind : kind_of node ≡ 8 = eqb-true (kind_of node) 8 (sym (is.is on.arena known) ∙ t) in
+      let neg : Neg r ≡ node = neg_at on.arena known kind inner in
+      record {
+        after = st;
+        is = ap (λ (m : rules.Node). negate_node (negate_by f) x m st) (sym neg);
+        stands = on;
+        below = omega (arith, known, (subst (λ (m : rules.Node). Under x (children m)) (sym neg) (on.arena.below x known)).0);
+      }
 
-  pub single_neg : NegatesSingle w held h x w held (Node r)
-  single_neg = record { is = λ q f top lt e n mem. comes_off q f top lt n mem }
+  pub single_neg : NegatesSingle w q x w (Node r q)
+  single_neg = record { is = λ f lt e on known. record { is = comes_off f lt on known } }
 
-module _ {w held w' held' : List ℕ} {h x : ℕ} {b : Bool} {r : Negated} (is : Is w 8 x b) (t : b ≡ false) (stored : StoresNegation w held h x 0 w' held' r) where
-  wrapped : {st : State} (q : Pass) (f top : ℕ) → x < f → length (members (node_at st.nodes x)) ≡ 0 → Negatable st w (pass_in held q) held h x
-      → Remembers st held top → AnswersCounted (negate_by f x st) st w' q h top held held' r
-  wrapped q zero top lt e n mem = absurd (not-suc-le-zero lt)
-  wrapped {st} q (suc f) top lt e n mem =
+module _ {w held w' : List ℕ} {h x : ℕ} {q : Pass} {b : Bool} {r : Given} (is : Is w 8 x b) (t : b ≡ false) (stored : StoresNegation w held h q x w' r) where
+  wrapped : {st : State} (f : ℕ) → x < f → length (members (node_at st.nodes x)) ≡ 0 → Stands st w q → x < length st.nodes → Answers (negate_by f x st) w' r
+  wrapped zero lt e on known = absurd (not-suc-le-zero lt)
+  wrapped {st} (suc f) lt e on known =
       let node = node_at st.nodes x in
       let none : members node ≡ [] = drop_of_length-le (members node) {i = 0} (omega arith) in
-      subst (λ (o : Out ℕ). AnswersCounted o st w' q h top held held' r)
-      (sym (turned_over (negate_by f) x node st (eqb-false (kind_of node) 8 (sym (is.is n.stands.arena n.known) ∙ t))
+      subst (λ (o : Out ℕ). Answers o w' r)
+      (sym (turned_over (negate_by f) x node st (eqb-false (kind_of node) 8 (sym (is.is on.arena known) ∙ t))
       ∙ ap (λ (ms : List ℕ). bind (each (negate_by f) ms st) (λ xs. store (turned_node xs x (kind_of node)))) none))
-      (stored.is q top n mem tt)
+      (subst (λ (j : ℕ). Answers (store (turned_node (part held h j) x (kind_of node)) st) w' r) e
+      (stored.is on known (subst (λ (j : ℕ). Under (length st.nodes) (part held h j)) (sym e) tt)))
 
-  pub single_wrapped : NegatesSingle w held h x w' held' r
+  pub single_wrapped : NegatesSingle w q x w' r
   single_wrapped = record { is = wrapped }
 
 -- `forget`
@@ -296,17 +193,16 @@ module _ {w held : List ℕ} {x n : ℕ} (count : Count w x n) where
       }
 
 -- `recalled`
-pub recalls : {held : List ℕ} {x p r : ℕ} → p ≡ negated_at + x → r ≡ cell held p → Recalled held x r
-recalls {held} e f = record { is = f ∙ ap (cell held) e }
+recalls_by : (c : ℕ) (r : Option ℕ) → SomeIff r (1 ≤ c) (c - 1) → Recalls c r
+recalls_by c (Some y) s = omega (arith, s.0, s.1)
+recalls_by c None s = omega arith
+
+pub recalls : {held : List ℕ} {x p c : ℕ} {r : Option ℕ} → p ≡ negated_at + x → c ≡ cell held p → SomeIff r (1 ≤ c) (c - 1) → Recalled held x r
+recalls {held} {c = c} {r} e f s = record { is = subst (λ (v : ℕ). Recalls v r) (f ∙ ap (cell held) e) (recalls_by c r s) }
 
 -- `remember`
-pub noted_node : {held held' : List ℕ} {x y p m : ℕ} {g : Negated} → g ≡ Node y → p ≡ negated_at + x → Sum y 1 m → held' ≡ set held p m → Noted held x g held' (Node y)
-noted_node {held} {held'} {x} {y} {p} {m} {g} e f sum put =
-    subst (λ (v : Negated). Noted held x v held' (Node y)) (sym e)
-    (record { is = (refl, λ le. put ∙ ap₂ (λ (a b : ℕ). set held a b) f (sum.is (omega arith) ∙ add-one y)) })
-
-pub noted_refused : {held : List ℕ} {x k : ℕ} {g : Negated} → g ≡ Refused k → Noted held x g held (Refused k)
-noted_refused {held} {x} {k} {g} e = subst (λ (v : Negated). Noted held x v held (Refused k)) (sym e) (record { is = refl })
+pub notes : {held held' : List ℕ} {x y p m : ℕ} → p ≡ negated_at + x → Sum y 1 m → held' ≡ set held p m → Noted held x y held'
+notes {held} {y = y} e sum put = record { is = λ le. put ∙ ap₂ (λ (a b : ℕ). set held a b) e (sum.is (omega arith) ∙ add-one y) }
 
 -- a node with members is no Neg
 no_neg : (n : rules.Node) → 0 < length (members n) → kind_of n ≡ 8 → ⊥
@@ -316,84 +212,97 @@ has_members : {st : State} {w held : List ℕ} {p : Pass} {h x n : ℕ} → Coun
 has_members {st} {x = x} c many b = let e = c.is b.stands.arena b.known in ⊎_elim (λ z. absurd (many (e ∙ z))) (λ z. z) (eq-zero-or-pos (length (members (node_at st.nodes x))))
 
 -- `remember`: what x came to is remembered of it, and of the others what was
-module _ {st : State} {w₀ held₀ held' held'' : List ℕ} (w' : List ℕ) (q : Pass) {h x top : ℕ} (n : Negatable st w₀ (pass_in held₀ q) held₀ h x) (mem : Remembers st held₀ top)
-    (long : held_at ≤ length held') (f : ℕ) (l : x < f) (t : x < top) where
-  module _ {y : ℕ} (a : NegationNoted (negate_by f x st) st w' (pass_in held' q) h top held₀ held' y) (put : held'' ≡ set held' (negated_at + x) (suc y)) where
-    abbrev end : State
-    end = a.negation.after
+module _ {st : State} {w₀ w' held₀ held' held'' : List ℕ} {q₀ q : Pass} {h x top y : ℕ} (n : Negatable st w₀ q₀ held₀ h x) (mem : Remembers st held₀ top)
+    (long : held_at ≤ length held') (f : ℕ) (l : x < f) (t : x < top) (a : NegationNoted (negate_by f x st) st w' q h top held₀ held' y) (note : Noted held' x y held'') where
+  abbrev end : State
+  end = a.negation.after
 
-    low : top ≤ most_nodes
-    low = omega (arith, n.stands.arena.few, n.stands.arena.count, mem.known)
+  low : top ≤ most_nodes
+  low = omega (arith, n.stands.arena.few, n.stands.arena.count, mem.known)
 
-    other : (k : ℕ) → (k ≡ negated_at + x → ⊥) → cell held'' k ≡ cell held' k
-    other k ne = ap (λ (v : List ℕ). cell v k) put ∙ get_or-set_other held' (negated_at + x) k (suc y) 0 ne
+  put : held'' ≡ set held' (negated_at + x) (suc y)
+  put =
+      let on = a.negation.stands.arena in
+      let few : y < most_nodes = omega (arith, a.negation.below, on.few, on.count) in
+      note.is (omega arith)
 
-    here : cell held'' (negated_at + x) ≡ suc y
-    here = ap (λ (v : List ℕ). cell v (negated_at + x)) put ∙ get_or-set_same held' (negated_at + x) (suc y) 0 (omega (arith, low))
+  other : (k : ℕ) → (k ≡ negated_at + x → ⊥) → cell held'' k ≡ cell held' k
+  other k ne = ap (λ (v : List ℕ). cell v k) put ∙ get_or-set_other held' (negated_at + x) k (suc y) 0 ne
 
-    comes_here : ComesAgain end x y
-    comes_here =
-        let z = a.negation in
-        record {
+  here : cell held'' (negated_at + x) ≡ suc y
+  here = ap (λ (v : List ℕ). cell v (negated_at + x)) put ∙ get_or-set_same held' (negated_at + x) (suc y) 0 (omega (arith, low))
+
+  comes_here : ComesAgain end x y
+  comes_here =
+      let z = a.negation in
+      record {
+        below = z.below;
+        is = λ g lt. negate_by_again end top (below_top z.stands a.remembers.known) f g x y st end t l lt mem.known z.is
+            (record { more = []; nodes = sym (append-nil end.nodes) });
+      }
+
+  comes_at : (b : Bool) (k z : ℕ) → eqb k x ≡ b → k < top → cell held'' (negated_at + k) ≡ suc z → ComesAgain end k z
+  comes_at true k z e lt c =
+      let same : k ≡ x = eqb-true k x e in
+      let to : suc y ≡ suc z = sym here ∙ ap (λ (v : ℕ). cell held'' (negated_at + v)) (sym same) ∙ c in
+      let to' : y ≡ z = omega arith in
+      subst (λ (v : ℕ). ComesAgain end v z) (sym same) (subst (ComesAgain end x) to' comes_here)
+  comes_at false k z e lt c =
+      let differ = eqb-false k x e in
+      a.remembers.is k z lt (sym (other (negated_at + k) (λ p. differ (omega arith))) ∙ c)
+
+  noted_more : NegationNoted (negate_by f x st) st w' q h top held₀ held'' y
+  noted_more =
+      let z = a.negation in
+      let few = low in
+      record {
+        negation = record {
+          after = z.after;
+          more = z.more;
+          is = z.is;
+          stands = z.stands;
+          nodes = z.nodes;
           below = z.below;
-          is = λ g lt. negate_by_again end top (below_top z.stands a.remembers.known) f g x y st end t l lt mem.known z.is
-              (record { more = []; nodes = sym (append-nil end.nodes) });
-        }
-
-    comes_at : (b : Bool) (k z : ℕ) → eqb k x ≡ b → k < top → cell held'' (negated_at + k) ≡ suc z → ComesAgain end k z
-    comes_at true k z e lt c =
-        let same : k ≡ x = eqb-true k x e in
-        let to : suc y ≡ suc z = sym here ∙ ap (λ (v : ℕ). cell held'' (negated_at + v)) (sym same) ∙ c in
-        let to' : y ≡ z = omega arith in
-        subst (λ (v : ℕ). ComesAgain end v z) (sym same) (subst (ComesAgain end x) to' comes_here)
-    comes_at false k z e lt c =
-        let differ = eqb-false k x e in
-        a.remembers.is k z lt (sym (other (negated_at + k) (λ p. differ (omega arith))) ∙ c)
-
-    noted_more : NegationNoted (negate_by f x st) st w' (pass_in held'' q) h top held₀ held'' y
-    noted_more =
-        let z = a.negation in
-        let few = low in
-        record {
-          negation = record {
-            after = z.after;
-            more = z.more;
-            is = z.is;
-            stands = stands_counted (pass_in held'' q) (sym (other counted_nodes (λ p. omega arith))) (sym (other counted_cells (λ p. omega arith))) z.stands;
-            nodes = z.nodes;
-            below = z.below;
-            kept = λ k lt b. other k (λ p. omega (arith, b (omega arith))) ∙ z.kept k lt b;
-          };
-          remembers = record { known = a.remembers.known; is = λ k z lt c. comes_at (eqb k x) k z refl lt c };
-        }
-
-  noting : (g r : Negated) → Noted held' x g held'' r → AnswersCounted (negate_by f x st) st w' q h top held₀ held' g → AnswersCounted (negate_by f x st) st w' q h top held₀ held'' r
-  noting (Node y) (Node z) e a =
-      let few : y < most_nodes = omega (arith, a.negation.below, a.negation.stands.arena.few, a.negation.stands.arena.count) in
-      subst (λ (v : ℕ). NegationNoted (negate_by f x st) st w' (pass_in held'' q) h top held₀ held'' v) e.is.0 (noted_more a (e.is.1 (omega arith)))
-  noting (Node y) (Refused k) e a = absurd e.is
-  noting (Refused j) (Node z) e a = absurd e.is
-  noting (Refused j) (Refused k) e a = a ∙ ap no e.is
+          kept = λ k lt b. other k (λ p. omega (arith, b (omega arith))) ∙ z.kept k lt b;
+        };
+        remembers = record { known = a.remembers.known; is = λ k z lt c. comes_at (eqb k x) k z refl lt c };
+      }
 
 -- `negate` of a node without members, and of one that is remembered
-module _ {w held : List ℕ} {h x n : ℕ} (count : Count w x n) where
-  pub negates_single : {w' held' : List ℕ} {r : Negated} → n ≡ 0 → NegatesSingle w held h x w' held' r → Negates w held h x w' held' r
-  negates_single e s = record { is = λ q f top l t b mem. s.is q f top l (sym (count.is b.stands.arena b.known) ∙ e) b mem }
-
-  pub negates_recalled : {v : ℕ} → (n ≡ 0 → ⊥) → Recalled held x v → (v ≡ 0 → ⊥) → Negates w held h x w held (Node (v - 1))
-  negates_recalled {v} many c known =
+module _ {w held : List ℕ} {h x n : ℕ} {q : Pass} (count : Count w x n) where
+  pub negates_single : {w' : List ℕ} {r : Given} → n ≡ 0 → NegatesSingle w q x w' r → Negates w held h q x w' held r
+  negates_single {r = r} e s =
       record {
-        is = λ {st} q f top l t b mem.
-            let e : v ≡ suc (v - 1) = ⊎_elim (λ z. absurd (known z)) (λ z. omega arith) (eq-zero-or-pos v) in
-            let a = mem.is x (v - 1) (t (has_members count many b)) (sym c.is ∙ e) in
-            noted_same q b mem (a.is f l) a.below;
+        is = λ {st} f top l t b mem.
+            noted_by h mem (λ y st' o. let k = keeps_negate_by f x st y st' o in record { more = k.more; nodes = k.nodes }) r
+            (s.is f l (sym (count.is b.stands.arena b.known) ∙ e) b.stands b.known);
       }
+
+  pub negates_recalled : {y : ℕ} {r : Option ℕ} → (n ≡ 0 → ⊥) → Recalled held x r → r ≡ Some y → Negates w held h q x w held (Node y q)
+  negates_recalled {y} many c e =
+      record {
+        is = λ {st} f top l t b mem.
+            let cell : Recalls (cell held (negated_at + x)) (Some y) = subst (Recalls (cell held (negated_at + x))) e c.is in
+            let a = mem.is x y (t (has_members count many b)) cell in
+            record {
+              negation = record { after = st; more = []; is = a.is f l; stands = b.stands; nodes = sym (append-nil st.nodes); below = a.below; kept = λ k lt b. refl };
+              remembers = mem;
+            };
+      }
+
+-- `complete`
+module _ {w held w' : List ℕ} {h x : ℕ} {q : Pass} {r : Given} (stored : StoresNegation w held h q x w' r) where
+  pub completes_node : {y : ℕ} {q' : Pass} {held' : List ℕ} → r ≡ Node y q' → Noted held x y held' → Completes w held h q x w' held' (Node y q')
+  completes_node e note = record { stored = subst (StoresNegation w held h q x w') e stored; noted = note }
+
+  pub completes_refused : {k : ℕ} → r ≡ Refused k → Completes w held h q x w' held (Refused k)
+  completes_refused e = record { stored = subst (StoresNegation w held h q x w') e stored; noted = refl }
 
 -- the loop over the members of x at member i: the negations so far are held from h on, and the rules are as far
 pub record Midway (f top : ℕ) (st : State) (w : List ℕ) (q : Pass) (held₀ held : List ℕ) (h x i : ℕ) : Type 0 where
   pub now : State
   pub more : List rules.Node
-  pub stands : Stands now w (pass_in held q)
+  pub stands : Stands now w q
   pub nodes : now.nodes ≡ st.nodes ++ more
   pub kept : KeptBut h held₀ held
   pub few : i ≤ length (members (node_at st.nodes x))
@@ -402,18 +311,15 @@ pub record Midway (f top : ℕ) (st : State) (w : List ℕ) (q : Pass) (held₀ 
   pub is : each (negate_by f) (members (node_at st.nodes x)) st
       ≡ bind (each (negate_by f) (drop i (members (node_at st.nodes x))) now) (λ zs. give (part held h i ++ zs))
 
-pub record Negating (w₀ held₀ : List ℕ) (h x : ℕ) (w held : List ℕ) (i : ℕ) : Type 0 where
-  pub long : length w ≡ length w₀
+pub record Negating (w₀ held₀ : List ℕ) (h : ℕ) (q₀ : Pass) (x : ℕ) (w held : List ℕ) (q : Pass) (i : ℕ) : Type 0 where
   pub cells : length held ≡ length held₀
-  pub is : {st : State} {q : Pass} (f top : ℕ) → x ≤ f → x < top → Negatable st w₀ (pass_in held₀ q) held₀ h x → Remembers st held₀ top
-      → Midway f top st w q held₀ held h x i
+  pub is : {st : State} (f top : ℕ) → x ≤ f → x < top → Negatable st w₀ q₀ held₀ h x → Remembers st held₀ top → Midway f top st w q held₀ held h x i
 
-pub negating_start : {w held : List ℕ} {h x : ℕ} → Negating w held h x w held 0
+pub negating_start : {w held : List ℕ} {h x : ℕ} {q : Pass} → Negating w held h q x w held q 0
 negating_start {x = x} =
     record {
-      long = refl;
       cells = refl;
-      is = λ {st} {q} f top le lt n mem.
+      is = λ {st} f top le lt n mem.
           record {
             now = st;
             more = [];
@@ -428,8 +334,8 @@ negating_start {x = x} =
     }
 
 -- what holds midway
-module _ {f top : ℕ} {st : State} {w₀ w held₀ held : List ℕ} {q : Pass} {h x i : ℕ}
-    (n : Negatable st w₀ (pass_in held₀ q) held₀ h x) (mid : Midway f top st w q held₀ held h x i) (long : length held ≡ length held₀) where
+module _ {f top : ℕ} {st : State} {w₀ w held₀ held : List ℕ} {q₀ q : Pass} {h x i : ℕ}
+    (n : Negatable st w₀ q₀ held₀ h x) (mid : Midway f top st w q held₀ held h x i) (long : length held ≡ length held₀) where
   abbrev mine : List ℕ
   mine = members (node_at st.nodes x)
 
@@ -441,9 +347,6 @@ module _ {f top : ℕ} {st : State} {w₀ w held₀ held : List ℕ} {q : Pass} 
 
   known : x < length mid.now.nodes
   known = omega (arith, n.known, longer)
-
-  counted : {k : ℕ} → Count w x k → k ≡ length mine
-  counted c = c.is mid.stands.arena known ∙ ap (λ (m : rules.Node). length (members m)) node_same
 
   member_is : {m : ℕ} → Member w x i m → i < length mine → m ≡ get_or mine i 0
   member_is c lt =
@@ -457,7 +360,7 @@ module _ {f top : ℕ} {st : State} {w₀ w held₀ held : List ℕ} {q : Pass} 
   up_same : (k : ℕ) → k ≤ length st.nodes → members_up_to mid.now.nodes k ≡ members_up_to st.nodes k
   up_same k le = ap (λ (l : List rules.Node). members_up_to l k) mid.nodes ∙ up_to_more st.nodes mid.more k le
 
-  negatable_member : {m deep : ℕ} → m < x → Sum h (length mine) deep → Negatable mid.now w (pass_in held q) held deep m
+  negatable_member : {m deep : ℕ} → m < x → Sum h (length mine) deep → Negatable mid.now w q held deep m
   negatable_member {m} {deep} lt sum =
       let a : deep ≡ h + length mine = sum.is (omega (arith, n.small)) in
       let b = up_same (suc m) (omega (arith, n.known)) in
@@ -470,14 +373,14 @@ module _ {f top : ℕ} {st : State} {w₀ w held₀ held : List ℕ} {q : Pass} 
         small = omega (arith, n.small);
       }
 
-  negatable_still : Negatable mid.now w (pass_in held q) held h x
+  negatable_still : Negatable mid.now w q held h x
   negatable_still =
       let b = up_same (suc x) n.known in
       record { stands = mid.stands; known = known; behind = n.behind; room = omega (arith, n.room); small = omega (arith, n.small) }
 
   -- what comes of the rest comes of the whole
-  from_here : {o o' : Out ℕ} (w' held' : List ℕ) (r : Negated) → o' ≡ o → AnswersCounted o mid.now w' q h top held held' r → AnswersCounted o' st w' q h top held₀ held' r
-  from_here w' held' (Node y) e noted =
+  from_here : {o o' : Out ℕ} (w' held' : List ℕ) (r : Given) → o' ≡ o → AnswersNoted o mid.now w' h top held held' r → AnswersNoted o' st w' h top held₀ held' r
+  from_here w' held' (Node y q') e noted =
       let a = noted.negation in
       record {
         negation = record {
@@ -506,10 +409,10 @@ module _ {f top : ℕ} {st : State} {w₀ w held₀ held : List ℕ} {q : Pass} 
       turn e lt
       ∙ ap (λ (o : Out ℕ). bind (bind o (λ y z. bind (each (negate_by f) (drop (suc i) mine) z) (λ xs. give (y ∷ xs)))) (λ zs. give (part held h i ++ zs))) g
 
-  midway_more : {m deep y p : ℕ} {w' held' held'' : List ℕ} → m ≡ get_or mine i 0 → i < length mine → deep ≡ h + length mine
-      → NegationNoted (negate_by f m mid.now) mid.now w' (pass_in held' q) deep top held held' y → length held' ≡ length held → p ≡ h + i → held'' ≡ set held' p y
-      → Midway f top st w' q held₀ held'' h x (i + 1)
-  midway_more {m} {deep} {y} {p} {w'} {held'} {held''} e lt d noted long' place put =
+  midway_more : {m deep y p : ℕ} {w' held' held'' : List ℕ} {q' : Pass} → m ≡ get_or mine i 0 → i < length mine → deep ≡ h + length mine
+      → NegationNoted (negate_by f m mid.now) mid.now w' q' deep top held held' y → length held' ≡ length held → p ≡ h + i → held'' ≡ set held' p y
+      → Midway f top st w' q' held₀ held'' h x (i + 1)
+  midway_more {m} {deep} {y} {p} {w'} {held'} {held''} {q'} e lt d noted long' place put =
       let a = noted.negation in
       let low = n.behind in
       let fit : h + i < length held' = omega (arith, n.room) in
@@ -520,13 +423,10 @@ module _ {f top : ℕ} {st : State} {w₀ w held₀ held : List ℕ} {q : Pass} 
       ap (part held'' h) (add-one i) ∙ ap (λ (v : List ℕ). part v h (suc i)) put' ∙ part_set_snoc held' h i y fit
       ∙ ap (λ (l : List ℕ). l ++ (y ∷ []))
       (run_ext (cell held') (cell held) h i (λ k b c. a.kept k (omega arith) (λ z. omega arith))) in
-      let on : Stands a.after w' (pass_in held'' q) =
-      stands_counted (pass_in held'' q) (sym (other counted_nodes (omega arith))) (sym (other counted_cells (omega arith))) a.stands in
-      let few : length a.after.nodes ≤ most_nodes = omega (arith, on.arena.few, on.arena.count) in
       record {
         now = a.after;
         more = mid.more ++ a.more;
-        stands = on;
+        stands = a.stands;
         nodes = a.nodes ∙ ap (λ (l : List rules.Node). l ++ a.more) mid.nodes ∙ append_assoc st.nodes mid.more a.more;
         kept = λ k l b. other k l ∙ a.kept k (omega arith) b ∙ mid.kept k l b;
         few = omega arith;
@@ -544,121 +444,122 @@ module _ {f top : ℕ} {st : State} {w₀ w held₀ held : List ℕ} {q : Pass} 
       }
 
 -- the loop, turn by turn
-module _ {w₀ held₀ w held : List ℕ} {h x i : ℕ} (inv : Negating w₀ held₀ h x w held i) where
-  module _ {n m : ℕ} (count : Count w x n) (lt : i < n) (member : Member w x i m) where
+module _ {w₀ held₀ w held : List ℕ} {h x n i : ℕ} {q₀ q : Pass} (count : Count w₀ x n) (many : n ≡ 0 → ⊥) (inv : Negating w₀ held₀ h q₀ x w held q i) where
+  counted : {st : State} → Negatable st w₀ q₀ held₀ h x → n ≡ length (members (node_at st.nodes x))
+  counted b = count.is b.stands.arena b.known
+
+  module _ {m : ℕ} (lt : i < n) (member : Member w x i m) where
     -- a member has a smaller number
-    never : {st : State} (q : Pass) {A : Type 0} (f top : ℕ) → x ≤ m → x < f → x < top → Negatable st w₀ (pass_in held₀ q) held₀ h x → Remembers st held₀ top → A
-    never q zero top le l t b mem = absurd (not-suc-le-zero l)
-    never q (suc f) top le l t b mem =
-        let mid = inv.is {q = q} f top (omega arith) t b mem in
-        let z = counted b mid inv.cells count in
-        absurd (omega (arith, member_below b mid inv.cells member (omega arith)))
+    never : {st : State} {A : Type 0} (f top : ℕ) → x ≤ m → x < f → x < top → Negatable st w₀ q₀ held₀ h x → Remembers st held₀ top → A
+    never zero top le l t b mem = absurd (not-suc-le-zero l)
+    never (suc f) top le l t b mem = let z = counted b in absurd (omega (arith, member_below b (inv.is f top (omega arith) t b mem) inv.cells member (omega arith)))
 
-    pub negates_never : {w' held' : List ℕ} {r : Negated} → {n₀ : ℕ} → Count w₀ x n₀ → (n₀ ≡ 0 → ⊥) → x ≤ m → Negates w₀ held₀ h x w' held' r
-    negates_never first many le = record { is = λ q f top l t b mem. never q f top le l (t (has_members first many b)) b mem }
+    pub negates_never : {w' held' : List ℕ} {r : Given} → x ≤ m → Negates w₀ held₀ h q₀ x w' held' r
+    negates_never le = record { is = λ f top l t b mem. never f top le l (t (has_members count many b)) b mem }
 
-    module _ {k deep : ℕ} {w' held' : List ℕ} {r : Negated} (less : m < x) (again : Count w x k) (sum : Sum h k deep) (call : Negates w held deep m w' held' r) where
+    module _ {deep : ℕ} {w' held' : List ℕ} {r : Given} (less : m < x) (sum : Sum h n deep) (call : Negates w held deep q m w' held' r) where
       -- what the call gives for the member
-      called : {st : State} {q : Pass} (f top : ℕ) → x ≤ f → x < top → (b : Negatable st w₀ (pass_in held₀ q) held₀ h x) (mid : Midway f top st w q held₀ held h x i)
-          → AnswersCounted (negate_by f m mid.now) mid.now w' q deep top held held' r
-      called {st} {q} f top le t b mid =
-          call.is q f top (omega arith) (λ z. omega arith)
-          (negatable_member b mid inv.cells less (subst (λ (j : ℕ). Sum h j deep) (counted b mid inv.cells again) sum)) mid.remembers
+      called : {st : State} (f top : ℕ) → x ≤ f → x < top → (b : Negatable st w₀ q₀ held₀ h x) (mid : Midway f top st w q held₀ held h x i)
+          → AnswersNoted (negate_by f m mid.now) mid.now w' deep top held held' r
+      called f top le t b mid =
+          call.is f top (omega arith) (λ z. omega arith) (negatable_member b mid inv.cells less (subst (λ (j : ℕ). Sum h j deep) (counted b) sum)) mid.remembers
 
-      pub negating_more : {y p : ℕ} {held'' : List ℕ} → r ≡ Node y → length w' ≡ length w → length held' ≡ length held
-          → p ≡ h + i → held'' ≡ set held' p y → Negating w₀ held₀ h x w' held'' (i + 1)
-      negating_more {y} {p} {held''} e lw lh place put =
+      pub negating_more : {y p : ℕ} {held'' : List ℕ} {q' : Pass} → r ≡ Node y q' → length held' ≡ length held → p ≡ h + i → held'' ≡ set held' p y
+          → Negating w₀ held₀ h q₀ x w' held'' q' (i + 1)
+      negating_more {y} {p} {held''} e lh place put =
           record {
-            long = lw ∙ inv.long;
             cells = ap length put ∙ length-set held' p y ∙ lh ∙ inv.cells;
-            is = λ {st} {q} f top le t b mem.
+            is = λ {st} f top le t b mem.
                 let mid = inv.is f top le t b mem in
-                let z = counted b mid inv.cells count in
-                let v = counted b mid inv.cells again in
-                midway_more b mid inv.cells (member_is b mid inv.cells member (omega arith)) (omega arith) (sum.is (omega (arith, b.small)) ∙ ap (λ (j : ℕ). h + j) v)
-                (subst (λ (o : Negated). AnswersCounted (negate_by f m mid.now) mid.now w' q deep top held held' o) e (called f top le t b mid))
+                let z = counted b in
+                midway_more b mid inv.cells (member_is b mid inv.cells member (omega arith)) (omega arith) (sum.is (omega (arith, b.small)) ∙ ap (λ (j : ℕ). h + j) z)
+                (subst (λ (o : Given). AnswersNoted (negate_by f m mid.now) mid.now w' deep top held held' o) e (called f top le t b mid))
                 lh place put;
           }
 
-      module _ {n₀ : ℕ} (first : Count w₀ x n₀) (many : n₀ ≡ 0 → ⊥) where
-        refused_at : {st : State} (q : Pass) {j : ℕ} → r ≡ Refused j → (f top : ℕ) → x < f → x < top → Negatable st w₀ (pass_in held₀ q) held₀ h x → Remembers st held₀ top
-            → negate_by f x st ≡ no j
-        refused_at q e zero top l t b mem = absurd (not-suc-le-zero l)
-        refused_at {st} q {j} e (suc f) top l t b mem =
-            let le : x ≤ f = omega arith in
-            let mid = inv.is {q = q} f top le t b mem in
-            let z = counted b mid inv.cells count in
-            let node = node_at st.nodes x in
-            let g = subst (λ (o : Negated). AnswersCounted (negate_by f m mid.now) mid.now w' q deep top held held' o) e (called f top le t b mid) in
-            turned_over (negate_by f) x node st (no_neg node (has_members first many b))
-            ∙ ap (λ (o : Out (List ℕ)). bind o (λ xs. store (turned_node xs x (kind_of node))))
-            (turn_refused b mid inv.cells (member_is b mid inv.cells member (omega arith)) (omega arith) g)
+      refused_at : {st : State} {j : ℕ} → r ≡ Refused j → (f top : ℕ) → x < f → x < top → Negatable st w₀ q₀ held₀ h x → Remembers st held₀ top → negate_by f x st ≡ no j
+      refused_at e zero top l t b mem = absurd (not-suc-le-zero l)
+      refused_at {st} {j} e (suc f) top l t b mem =
+          let le : x ≤ f = omega arith in
+          let mid = inv.is f top le t b mem in
+          let z = counted b in
+          let node = node_at st.nodes x in
+          let g = subst (λ (o : Given). AnswersNoted (negate_by f m mid.now) mid.now w' deep top held held' o) e (called f top le t b mid) in
+          turned_over (negate_by f) x node st (no_neg node (has_members count many b))
+          ∙ ap (λ (o : Out (List ℕ)). bind o (λ xs. store (turned_node xs x (kind_of node))))
+          (turn_refused b mid inv.cells (member_is b mid inv.cells member (omega arith)) (omega arith) g)
 
-        pub negates_refused : {j : ℕ} → r ≡ Refused j → Negates w₀ held₀ h x w' held' (Refused j)
-        negates_refused e = record { is = λ q f top l t b mem. refused_at q e f top l (t (has_members first many b)) b mem }
+      pub negates_refused : {j : ℕ} → r ≡ Refused j → Negates w₀ held₀ h q₀ x w' held' (Refused j)
+      negates_refused e = record { is = λ f top l t b mem. refused_at e f top l (t (has_members count many b)) b mem }
 
-  -- all members are negated, and the node that they make is stored and remembered
-  module _ {n₀ n : ℕ} {w' held' held'' : List ℕ} {g r : Negated} (first : Count w₀ x n₀) (many : n₀ ≡ 0 → ⊥) (count : Count w x n) (le : n ≤ i)
-      (stored : StoresNegation w held h x i w' held' g) (long : length held' ≡ length held) (noted : Noted held' x g held'' r) where
-    done_at : {st : State} (q : Pass) (f top : ℕ) → x < f → x < top → Negatable st w₀ (pass_in held₀ q) held₀ h x → Remembers st held₀ top
-        → AnswersCounted (negate_by f x st) st w' q h top held₀ held' g
-    done_at q zero top l t b mem = absurd (not-suc-le-zero l)
-    done_at {st} q (suc f) top l t b mem =
-        let mid = inv.is {q = q} f top (omega arith) t b mem in
-        let z = counted b mid inv.cells count in
-        let node = node_at st.nodes x in
-        let all = part held h i in
-        let gone : drop i (members node) ≡ [] = drop_of_length-le (members node) {i = i} (omega arith) in
-        from_here b mid inv.cells w' held' g
-        (turned_over (negate_by f) x node st (no_neg node (has_members first many b))
-        ∙ ap (λ (o : Out (List ℕ)). bind o (λ xs. store (turned_node xs x (kind_of node))))
-        (mid.is ∙ ap (λ (v : List ℕ). bind (each (negate_by f) v mid.now) (λ zs. give (all ++ zs))) gone ∙ ap (λ (v : List ℕ). ok v mid.now) (append-nil all))
-        ∙ ap (λ (v : rules.Node). store (turned_node all x (kind_of v)) mid.now) (sym (node_same b mid inv.cells)))
-        (stored.is q top (negatable_still b mid inv.cells) mid.remembers mid.gathered)
+-- all members are negated, and the node that they make is stored
+module _ {w₀ held₀ w held w' : List ℕ} {h x n i : ℕ} {q₀ q : Pass} {r : Given} (count : Count w₀ x n) (many : n ≡ 0 → ⊥) (before : Negating w₀ held₀ h q₀ x w held q i)
+    (all : n ≤ i) (most : i ≤ n) {held' : List ℕ} (done : Completes w held h q x w' held' r) where
+  inv : Negating w₀ held₀ h q₀ x w held q n
+  inv = let e : i ≡ n = omega arith in subst (Negating w₀ held₀ h q₀ x w held q) e before
 
-    pub negates_done : Negates w₀ held₀ h x w' held'' r
-    negates_done =
-        record {
-          is = λ q f top l t b mem.
-              let t' = t (has_members first many b) in
-              noting w' q b mem (omega (arith, b.behind, b.room, inv.cells)) f l t' g r noted (done_at q f top l t' b mem);
-        }
+  done_at : {st : State} (f top : ℕ) → x < f → x < top → Negatable st w₀ q₀ held₀ h x → Remembers st held₀ top → AnswersNoted (negate_by f x st) st w' h top held₀ held r
+  done_at zero top l t b mem = absurd (not-suc-le-zero l)
+  done_at {st} (suc f) top l t b mem =
+      let mid = inv.is f top (omega arith) t b mem in
+      let z = count.is b.stands.arena b.known in
+      let node = node_at st.nodes x in
+      let xs = part held h n in
+      let e = z ∙ ap (λ (m : rules.Node). length (members m)) (sym (node_same b mid inv.cells)) in
+      let made = turned_node xs x (kind_of (node_at mid.now.nodes x)) in
+      let gone : drop n (members node) ≡ [] = drop_of_length-le (members node) {i = n} (omega arith) in
+      from_here b mid inv.cells w' held r
+      (turned_over (negate_by f) x node st (no_neg node (has_members count many b))
+      ∙ ap (λ (o : Out (List ℕ)). bind o (λ xs. store (turned_node xs x (kind_of node))))
+      (mid.is ∙ ap (λ (v : List ℕ). bind (each (negate_by f) v mid.now) (λ zs. give (xs ++ zs))) gone ∙ ap (λ (v : List ℕ). ok v mid.now) (append-nil xs))
+      ∙ ap (λ (v : rules.Node). store (turned_node xs x (kind_of v)) mid.now) (sym (node_same b mid inv.cells)))
+      (noted_by h mid.remembers (λ y st' o. let k = store_keeps made mid.now y st' o in record { more = k.grows.more; nodes = k.grows.nodes }) r
+      (subst (λ (j : ℕ). Answers (store (turned_node (part held h j) x (kind_of (node_at mid.now.nodes x))) mid.now) w' r) (sym e)
+      (done.stored.is mid.stands (known b mid inv.cells) (subst (λ (j : ℕ). Under (length mid.now.nodes) (part held h j)) e mid.gathered))))
+
+  noting : {st : State} (v : Given) → Notes held x v held' → (f top : ℕ) → x < f → x < top → Negatable st w₀ q₀ held₀ h x → Remembers st held₀ top
+      → AnswersNoted (negate_by f x st) st w' h top held₀ held v → AnswersNoted (negate_by f x st) st w' h top held₀ held' v
+  noting (Node y q') note f top l t b mem a = noted_more b mem (omega (arith, b.behind, b.room, before.cells)) f l t a note
+  noting (Refused k) note f top l t b mem a = a
+
+  pub negates_done : Negates w₀ held₀ h q₀ x w' held' r
+  negates_done =
+      record {
+        is = λ f top l t b mem.
+            let t' = t (has_members count many b) in
+            noting r done.noted f top l t' b mem (done_at f top l t' b mem);
+      }
 
 -- the answer, whatever is remembered
-abbrev AnswersAlone : Out ℕ → State → List ℕ → Pass → ℕ → List ℕ → List ℕ → Negated → Type 0
-AnswersAlone o st w q h held held' (Node y) = Negation o st w (pass_in held' q) h held held' y
-AnswersAlone o st w q h held held' (Refused k) = o ≡ no k
+alone : (o : Out ℕ) (st : State) (w : List ℕ) (h top : ℕ) (held held1 held' : List ℕ) (r : Given) → ((k : ℕ) → (negated_at ≤ k → held_at ≤ k) → cell held1 k ≡ cell held k)
+    → AnswersNoted o st w h top held1 held' r → AnswersGiven o st w h held held' r
+alone o st w h top held held1 held' (Node y q) same a =
+    let z = a.negation in
+    record {
+      after = z.after;
+      more = z.more;
+      is = z.is;
+      stands = z.stands;
+      nodes = z.nodes;
+      below = z.below;
+      kept = λ k lt l. z.kept k lt l ∙ same k (λ c. l (omega arith));
+    }
+alone o st w h top held held1 held' (Refused k) same a = a
 
-alone : (o : Out ℕ) (st : State) (w : List ℕ) (q : Pass) (h top : ℕ) (held held' : List ℕ) (r : Negated) → AnswersCounted o st w q h top held held' r
-    → AnswersAlone o st w q h held held' r
-alone o st w q h top held held' (Node y) a = a.negation
-alone o st w q h top held held' (Refused k) a = a
-
--- `negate_output_ty`: the counters begin as the pass has them, nothing is remembered, and the counters are read at the end
-module _ {w held held1 held2 w' held' : List ℕ} {h x : ℕ} {q : Pass} {r : Negated} (e : held1 ≡ counting held q) (forgot : Forgets w held1 x held2)
-    (long : length held2 ≡ length held1) (call : Negates w held2 h x w' held' r) where
+-- `negate_output_ty`: nothing is remembered at first
+module _ {w held held1 w' held' : List ℕ} {h x : ℕ} {q : Pass} {r : Given} (forgot : Forgets w held x held1) (long : length held1 ≡ length held)
+    (call : Negates w held1 h q x w' held' r) where
   module _ {st : State} (n : Negatable st w q held h x) where
-    forgotten : Forgotten st.nodes held1 x held2
+    forgotten : Forgotten st.nodes held x held1
     forgotten = forgot.is n.stands.arena n.known
 
-    begun : Negatable st w (pass_in held2 q) held2 h x
-    begun =
-        let wide : held_at ≤ length held = omega (arith, n.behind, n.room) in
-        let same = long ∙ ap length e ∙ length-set (set held counted_nodes q.nodes) counted_cells q.cells ∙ length-set held counted_nodes q.nodes in
-        record {
-          stands = stands_counted (pass_in held2 q) (sym (forgotten.kept counted_nodes (λ z. omega arith) ∙ counting_nodes held q e wide))
-              (sym (forgotten.kept counted_cells (λ z. omega arith) ∙ counting_cells held q e wide)) n.stands;
-          known = n.known;
-          behind = n.behind;
-          room = omega (arith, n.room);
-          small = n.small;
-        }
-
-    given_by : (top : ℕ) → (0 < length (members (node_at st.nodes x)) → x < top) → Remembers st held2 top → AnswersAlone (negate_by (suc x) x st) st w' q h held2 held' r
-    given_by top t mem = alone (negate_by (suc x) x st) st w' q h top held2 held' r (call.is q (suc x) top (omega arith) t begun mem)
+    given_by : (top : ℕ) → (0 < length (members (node_at st.nodes x)) → x < top) → Remembers st held1 top → AnswersGiven (negate_by (suc x) x st) st w' h held held' r
+    given_by top t mem =
+        alone (negate_by (suc x) x st) st w' h top held held1 held' r forgotten.kept
+        (call.is (suc x) top (omega arith) t (record { stands = n.stands; known = n.known; behind = n.behind; room = omega (arith, n.room); small = n.small }) mem)
 
     -- a node without members looks at nothing that is remembered, and another finds nothing
-    given : AnswersAlone (negate_by (suc x) x st) st w' q h held2 held' r
+    given : AnswersGiven (negate_by (suc x) x st) st w' h held held' r
     given =
         ⊎_elim
         (λ z. given_by 0 (λ l. absurd (omega arith)) (record { known = omega arith; is = λ k y lt c. absurd (not-suc-le-zero lt) }))
@@ -666,27 +567,6 @@ module _ {w held held1 held2 w' held' : List ℕ} {h x : ℕ} {q : Pass} {r : Ne
         (record { known = omega (arith, n.known); is = λ k y lt c. absurd (omega (arith, forgotten.none z k (omega arith))) }))
         (eq-zero-or-pos (length (members (node_at st.nodes x))))
 
-  pub output_node : {y a b : ℕ} → r ≡ Node y → a ≡ cell held' counted_nodes → b ≡ cell held' counted_cells
-      → NegatesOutput w held h q x w' held' (NodeG y (record { nodes = a; cells = b; ops = q.ops; sorted = q.sorted; bailed = q.bailed }))
+  pub output_given : NegatesOutput w held h q x w' held' r
   unfolding negate_output_ty
-  output_node {y} {a} {b} t f g =
-      record {
-        is = λ {st} n.
-            let z : Negation (negate_by (suc x) x st) st w' (pass_in held' q) h held2 held' y =
-            subst (λ (o : Negated). AnswersAlone (negate_by (suc x) x st) st w' q h held2 held' o) t (given n) in
-            record {
-              after = z.after;
-              more = z.more;
-              is = z.is;
-              stands = stands_counted (record { nodes = a; cells = b; ops = q.ops; sorted = q.sorted; bailed = q.bailed }) (sym f) (sym g) z.stands;
-              nodes = z.nodes;
-              below = z.below;
-              kept = λ k lt l.
-                  z.kept k lt l ∙ (forgotten n).kept k (λ c. l (omega arith))
-                  ∙ counting_other held q e k (λ c. omega (arith, l (omega arith))) (λ c. omega (arith, l (omega arith)));
-            };
-      }
-
-  pub output_refused : {k : ℕ} → r ≡ Refused k → NegatesOutput w held h q x w' held' (RefusedG k)
-  unfolding negate_output_ty
-  output_refused t = record { is = λ {st} n. subst (λ (o : Negated). AnswersAlone (negate_by (suc x) x st) st w' q h held2 held' o) t (given n) }
+  output_given = record { is = given }

@@ -1,109 +1,75 @@
 // Negation.
 #![tactic(auto)]
 
-ghost use Rattle.std.specs.Prelude.{◌≡◌};
-ghost use Rattle.negation.specs.Negations.{counting, Counted, Entered, Turns, StoresNegation, NegatesSingle, Recalled, Noted, Forgets, Negates, NegatesOutput};
+ghost use Rattle.lang_ty.specs.Given.{given};
+ghost use Rattle.lang_ty.specs.Nodes.{code};
+ghost use Rattle.negation.specs.Negations.{Turns, StoresNegation, NegatesSingle, Recalled, Noted, Completes, Forgets, Negates, NegatesOutput};
 
-use cells::{add, at, clear, get, place, put, set};
+use cells::{add, clear, get, place, put};
 use lang_ty::arena;
-use lang_ty::arena::{Given, OutputTy, Pass};
+use lang_ty::arena::{OutputTy, Pass};
 use layout::WorkSlice;
-
-// What was negated comes to a node. Its counts of nodes and cells lie in the working slice: a negation can be thousands of levels deep, and a
-// level keeps as little as it can.
-#[derive(Clone, Copy)]
-enum Negated {
-    Node(u32),
-    Refused(u32),
-}
-
-fn counted(held: &[u32]) -> Pass
-    ensures { Counted held.now result }
-{
-    Pass {
-        nodes: at(held, WorkSlice::COUNTED_NODES),
-        cells: at(held, WorkSlice::COUNTED_CELLS),
-        ops: 0,
-        sorted: false,
-        bailed: false,
-    }
-}
-
-fn count(held: &mut [u32], q: Pass)
-    ensures { held.new ≡ counting held.old q }
-{
-    set(held, WorkSlice::COUNTED_NODES, q.nodes);
-    set(held, WorkSlice::COUNTED_CELLS, q.cells);
-}
-
-// The node that was stored, once it is counted.
-fn stored(held: &mut [u32], g: Given) -> Negated
-    ensures { Entered held.old held.new g result }
-{
-    match g {
-        Given::Node(x, q) => {
-            count(held, q);
-            Negated::Node(x)
-        }
-        Given::Refused(k) => Negated::Refused(k),
-    }
-}
+use rules::Refusal;
 
 // The kind of node that the negations of the members of one of that kind make; any other kind turns into a Neg.
-fn turned(kind: u32) -> u32
-    ensures { Turns kind result }
+fn turned(kind: OutputTy) -> OutputTy
+    ensures { Turns (code kind) (code result) }
 {
-    if kind == OutputTy::UNION {
-        return OutputTy::INTERSECTION;
-    }
-    if kind == OutputTy::INTERSECTION {
-        OutputTy::UNION
-    } else {
-        OutputTy::NEG
+    match kind {
+        OutputTy::Union => OutputTy::Intersection,
+        OutputTy::Intersection => OutputTy::Union,
+        _ => OutputTy::Neg,
     }
 }
 
-// The Neg of node x, or the node of the n negations held from h on.
-fn store_negation(arena: &mut [u32], held: &mut [u32], h: u32, x: u32, n: u32) -> Negated
-    ensures { StoresNegation arena.old held.old h x n arena.new held.new result }
+// The Neg of node x, or the node of the negations of its members, held from h on.
+fn store_negation(
+    arena: &mut [u32],
+    held: &[u32],
+    h: u32,
+    q: &mut Pass,
+    x: u32,
+) -> Result<u32, Refusal>
+    ensures { StoresNegation arena.old held.now h q.old x arena.new (given result q.new) }
 {
-    let kind = turned(arena::kind(arena, x));
-    let q = counted(held);
-    if kind == OutputTy::NEG {
-        return stored(held, arena::store_one(arena, q, OutputTy::NEG, x));
+    match turned(arena::kind(arena, x)) {
+        OutputTy::Neg => arena::store_one(arena, q, OutputTy::Neg, x),
+        kind => {
+            let n = arena::count(arena, x);
+            arena::store_list(arena, q, kind, held, h, n)
+        }
     }
-    let g = arena::store_list(arena, q, kind, held, h, n);
-    stored(held, g)
 }
 
-// The negation of node x, which has no members: a Neg comes off, anything else is wrapped.
-fn negate_single(arena: &mut [u32], held: &mut [u32], h: u32, x: u32) -> Negated
-    ensures { NegatesSingle arena.old held.old h x arena.new held.new result }
+// The negation of node x, which has no members: a Neg comes off, anything else is wrapped. It stays out of line, as complete does.
+#[inline(never)]
+fn negate_single(
+    arena: &mut [u32],
+    held: &[u32],
+    h: u32,
+    q: &mut Pass,
+    x: u32,
+) -> Result<u32, Refusal>
+    ensures { NegatesSingle arena.old q.old x arena.new (given result q.new) }
 {
-    if arena::is(arena, OutputTy::NEG, x) {
-        return Negated::Node(arena::word(arena, x, 1));
+    if arena::is(arena, OutputTy::Neg, x) {
+        return Ok(arena::word(arena, x, 1));
     }
-    store_negation(arena, held, h, x, 0)
+    store_negation(arena, held, h, q, x)
 }
 
-// What this negation made of node x before: the number of that node and 1, or 0.
-fn recalled(held: &[u32], x: u32) -> u32
+// What this negation made of node x before: its cell has the number of that node and 1, or 0.
+fn recalled(held: &[u32], x: u32) -> Option<u32>
     ensures { Recalled held.now x result }
 {
-    get(held, place(WorkSlice::NEGATED, x))
+    get(held, place(WorkSlice::NEGATED, x)).checked_sub(1)
 }
 
-// The node that x came to is remembered.
-fn remember(held: &mut [u32], x: u32, g: Negated) -> Negated
-    ensures { Noted held.old x g held.new result }
+// Node x came to node y.
+fn remember(held: &mut [u32], x: u32, y: u32)
+    ensures { Noted held.old x y held.new }
 {
-    match g {
-        Negated::Node(y) => {
-            put(held, place(WorkSlice::NEGATED, x), add(y, 1));
-            Negated::Node(y)
-        }
-        Negated::Refused(k) => Negated::Refused(k),
-    }
+    put(held, place(WorkSlice::NEGATED, x), add(y, 1));
 }
 
 // Nothing is remembered of node x and of those below it, which its negation can meet. One that has no members meets no other.
@@ -115,56 +81,56 @@ fn forget(arena: &[u32], held: &mut [u32], x: u32)
     }
 }
 
-// The negation of node x: a union or an intersection turns over, once, however often it is met. The negations of its members, which have smaller
-// numbers, are held from h on.
-fn negate(arena: &mut [u32], held: &mut [u32], h: u32, x: u32) -> Negated
-    ensures { Negates arena.old held.old h x arena.new held.new result }
+// The node of the negations of the members of x, held from h on; that x came to it is remembered. It stays out of line: what it takes of the stack is no part of a
+// level of a negation.
+#[inline(never)]
+fn complete(
+    arena: &mut [u32],
+    held: &mut [u32],
+    h: u32,
+    q: &mut Pass,
+    x: u32,
+) -> Result<u32, Refusal>
+    ensures { Completes arena.old held.old h q.old x arena.new held.new (given result q.new) }
 {
-    if arena::count(arena, x) == 0 {
-        return negate_single(arena, held, h, x);
+    let y = store_negation(arena, held, h, q, x)?;
+    remember(held, x, y);
+    Ok(y)
+}
+
+// The negation of node x: a union or an intersection turns over, once, however often it is met. The negations of its members, which have smaller
+// numbers, are held from h on. It can be thousands of levels deep, and a level keeps as little as it can.
+fn negate(arena: &mut [u32], held: &mut [u32], h: u32, q: &mut Pass, x: u32) -> Result<u32, Refusal>
+    ensures { Negates arena.old held.old h q.old x arena.new held.new (given result q.new) }
+{
+    let n = arena::count(arena, x);
+    if n == 0 {
+        return negate_single(arena, held, h, q, x);
     }
-    let before = recalled(held, x);
-    if before != 0 {
-        return Negated::Node(before - 1);
+    if let Some(y) = recalled(held, x) {
+        return Ok(y);
     }
-    let mut i = 0;
-    while i < arena::count(arena, x) {
+    for i in 0..n {
         let m = arena::member(arena, x, i);
         if x <= m {
-            return Negated::Node(x);
+            return Ok(x);
         }
-        let deep = add(h, arena::count(arena, x));
-        match negate(arena, held, deep, m) {
-            Negated::Node(y) => {
-                put(held, place(h, i), y);
-                i += 1;
-            }
-            Negated::Refused(k) => {
-                return Negated::Refused(k);
-            }
-        }
+        let y = negate(arena, held, add(h, n), q, m)?;
+        put(held, place(h, i), y);
     }
-    let g = store_negation(arena, held, h, x, i);
-    remember(held, x, g)
+    complete(arena, held, h, q, x)
 }
 
 // negate_output_ty
-pub fn negate_output_ty(arena: &mut [u32], held: &mut [u32], h: u32, q: Pass, x: u32) -> Given
-    ensures { NegatesOutput arena.old held.old h q x arena.new held.new result }
+pub fn negate_output_ty(
+    arena: &mut [u32],
+    held: &mut [u32],
+    h: u32,
+    q: &mut Pass,
+    x: u32,
+) -> Result<u32, Refusal>
+    ensures { NegatesOutput arena.old held.old h q.old x arena.new held.new (given result q.new) }
 {
-    count(held, q);
     forget(arena, held, x);
-    match negate(arena, held, h, x) {
-        Negated::Node(y) => {
-            let r = Pass {
-                nodes: at(held, WorkSlice::COUNTED_NODES),
-                cells: at(held, WorkSlice::COUNTED_CELLS),
-                ops: q.ops,
-                sorted: q.sorted,
-                bailed: q.bailed,
-            };
-            Given::Node(y, r)
-        }
-        Negated::Refused(k) => Given::Refused(k),
-    }
+    negate(arena, held, h, q, x)
 }

@@ -1,28 +1,24 @@
 -- Rows of an old listing's lines: what fits a node, and what a root's line says. Assumes nothing.
-use mathlib.Core.Path.{◌≡◌, refl, sym, ap, ap₂, ◌∙◌}
-use mathlib.Core.Bool.{Bool, true, false, not}
-use Prim.Native.Nat.{ℕ, ◌+◌, ◌≤◌, ◌<◌}
-use native.Mathlib.Omega.{arith}
+use mathlib.Core.Path.{◌≡◌, refl, sym, ap, ◌∙◌}
+use mathlib.Core.Bool.{Bool, true, false}
+use Prim.Native.Nat.{ℕ, ◌+◌}
 use mathlib.Core.List.{List, [], ◌∷◌}
 use lib.ListN.{length}
 use lib.Dec.{eqb, leb}
-use borrow.Author.Tests.{eq-eqb, ne_eqb, le-leb, lt-leb, not-true, not-false}
+use borrow.Author.Tests.{ne_eqb}
 use Rattle.cells.specs.Part.{if, cell, part}
 use Rattle.cells.proofs.Parts.{run_length}
-use Rattle.cells.proofs.Choices.{if_self, if_false}
-use Rattle.rules.specs.Ceilings.{most_members, most_nodes}
+use Rattle.cells.proofs.Choices.{if_self}
+use Rattle.rules.specs.Ceilings.{most_members}
 use Rattle.rules.specs.Plain.{both, ascending}
 use Rattle.rules.specs.Table.{attr_at, all_below, keys_in, keys_ascend}
 use Rattle.rules.specs.Types.{Node, TyVar, Primitive, ListOf, Lambda, AttrSet, Union, Intersection, Named, Neg, Bottom, Top}
-use Rattle.rules.specs.Listing.{node_of, node_fits, within, for_root, nodes_after}
-use Rattle.text.specs.declared.Num.{Num}
-use Rattle.text.specs.declared.Num.TheVariants.{No, Is}
-use Rattle.text.specs.Reads.{num_of}
+use Rattle.rules.specs.Listing.{node_of, node_fits}
 use Rattle.table.specs.declared.rows.Places.{Places}
 use Rattle.table.specs.Rows.{At, Ascend, Below, Placed, SetKnown, KeysKnown}
 use Rattle.table.proofs.Entries.{part_every, set_keys, set_optional}
-use Rattle.old_listing.specs.Olds.{asked, row, SetFits, MembersFit, NodeFits, Within, ForRoot, Count}
-use mathlib.Core.Option.{Option, none, some}
+use Rattle.old_listing.specs.Olds.{row, SetFits, MembersFit, NodeFits}
+use mathlib.Core.Option.{some}
 
 -- sets
 abbrev keys_rest : List ℕ → ℕ → Bool → Bool
@@ -46,19 +42,19 @@ module _ (w : List ℕ) (to names i : ℕ) (p : Places) (x y z : Bool) where
   optional_so b k ex q f ey o e = keys_so true k ex q f ey ∙ ap (keys_rest (row w to) names) (ap ascending (set_optional (row w to) p q.is) ∙ sym o.is ∙ e)
 
 module _ {w : List ℕ} {to names i : ℕ} {x : Bool} (k : SetKnown w 0 to i x) where
-  pub set_kids_no : not x ≡ true → SetFits w to names i false
-  set_kids_no e = record { is = sym (kids_so w to names i (record { fields = 0; dynamic = 0; held = 0; opens = 0; optional = 0 }) x x x false k (not-true x e)) }
+  pub set_kids_no : {r : Bool} → x ≡ false → r ≡ false → SetFits w to names i r
+  set_kids_no e z = record { is = z ∙ sym (kids_so w to names i (record { fields = 0; dynamic = 0; held = 0; opens = 0; optional = 0 }) x x x false k e) }
 
-  module _ {p : Places} {y : Bool} (ex : not x ≡ false) (q : Placed w 0 to p) (f : Ascend w 0 to 2 2 p.fields y) where
-    pub set_keys_no : not y ≡ true → SetFits w to names i false
-    set_keys_no e = record { is = sym (keys_so w to names i p x y y false k (not-false x ex) q f (not-true y e)) }
+  module _ {p : Places} {y : Bool} (ex : x ≡ true) (q : Placed w 0 to p) (f : Ascend w 0 to 2 2 p.fields y) where
+    pub set_keys_no : {r : Bool} → y ≡ false → r ≡ false → SetFits w to names i r
+    set_keys_no e z = record { is = z ∙ sym (keys_so w to names i p x y y false k ex q f e) }
 
-    module _ {z : Bool} (ey : not y ≡ false) (o : Ascend w 0 to (p.opens + 2) 1 p.optional z) where
-      pub set_optional_no : not z ≡ true → SetFits w to names i false
-      set_optional_no e = record { is = sym (optional_so w to names i p x y z false k (not-false x ex) q f (not-false y ey) o (not-true z e)) }
+    module _ {z : Bool} (ey : y ≡ true) (o : Ascend w 0 to (p.opens + 2) 1 p.optional z) where
+      pub set_optional_no : {r : Bool} → z ≡ false → r ≡ false → SetFits w to names i r
+      set_optional_no e d = record { is = d ∙ sym (optional_so w to names i p x y z false k ex q f ey o e) }
 
-      pub set_last : {v : Bool} → not z ≡ false → KeysKnown w 0 to names v → SetFits w to names i v
-      set_last e h = record { is = h.is ∙ sym (optional_so w to names i p x y z true k (not-false x ex) q f (not-false y ey) o (not-false z e)) }
+      pub set_last : {v : Bool} → z ≡ true → KeysKnown w 0 to names v → SetFits w to names i v
+      set_last e h = record { is = h.is ∙ sym (optional_so w to names i p x y z true k ex q f ey o e) }
 
 -- members
 module _ {w : List ℕ} {to i n : ℕ} {b : Bool} (a : At w 0 to 1 n) (h : Below w 0 to 2 1 n i b) where
@@ -70,8 +66,8 @@ module _ {w : List ℕ} {to i n : ℕ} {b : Bool} (a : At w 0 to 1 n) (h : Below
   pub members_yes : b ≡ true → MembersFit w to i (leb n most_members)
   members_yes e = record { is = sym (members_so true e) }
 
-  pub members_no : b ≡ false → MembersFit w to i false
-  members_no e = record { is = sym (members_so false e) }
+  pub members_no : b ≡ false → MembersFit w to i b
+  members_no e = record { is = e ∙ sym (members_so false e) }
 
 -- the node of a row of kind k
 abbrev node_by : ℕ → List ℕ → Node
@@ -137,60 +133,3 @@ module _ {w : List ℕ} {to names i kind : ℕ} (a : At w 0 to 0 kind) where
 
   pub node_else : (kind ≡ 4 → ⊥) → (kind ≡ 5 → ⊥) → (kind ≡ 6 → ⊥) → (kind ≡ 3 → ⊥) → (kind ≡ 7 → ⊥) → (kind ≡ 2 → ⊥) → (kind ≡ 8 → ⊥) → NodeFits w to names i true
   node_else c d e b f g h = of_kind_lem kind refl (sym (plain names i kind (row w to) g b c d e f h))
-
--- a root's line
-pub within_low : {a b x : ℕ} → a ≤ x → Within a b x (leb x b)
-within_low {a} {b} {x} h = record { is = sym (ap (λ (t : Bool). both t (λ _. leb x b)) (le-leb a x h)) }
-
-pub within_out : {a b x : ℕ} → x < a → Within a b x false
-within_out {a} {b} {x} h = record { is = sym (ap (λ (t : Bool). both t (λ _. leb x b)) (lt-leb a x h)) }
-
-id_so : (w : List ℕ) (to id sign x : ℕ) (t : Bool) → At w 0 to 1 x → eqb x id ≡ t → for_root (asked id sign) (row w to) ≡ both t (λ _. eqb (cell (row w to) 2) sign)
-id_so w to id sign x t a e = ap (λ (u : Bool). both u (λ _. eqb (cell (row w to) 2) sign)) (ap (λ (n : ℕ). eqb n id) (sym a.is) ∙ e)
-
-module _ {w : List ℕ} {to id sign x : ℕ} (a : At w 0 to 1 x) where
-  pub root_id : {y : ℕ} → x ≡ id → At w 0 to 2 y → ForRoot w to id sign (eqb y sign)
-  root_id e b = record { is = ap (λ (n : ℕ). eqb n sign) b.is ∙ sym (id_so w to id sign x true a (eq-eqb x id e)) }
-
-  pub root_other : (x ≡ id → ⊥) → ForRoot w to id sign false
-  root_other e = record { is = sym (id_so w to id sign x false a (ne_eqb x id e)) }
-
-abbrev count_by : ℕ → Bool → Bool → Bool → Bool → ℕ → Option ℕ
-count_by k f p q r n =
-    if (both (both (eqb k 1) (λ _. f)) (λ _. both p (λ _. q))) (λ _. some n)
-    (λ _. if (both (both (eqb k 2) (λ _. f)) (λ _. r)) (λ _. some 0) (λ _. none))
-
-module _ {w : List ℕ} {to id sign k x n : ℕ} {f : Bool} (hk : At w 0 to 0 k) (hx : At w 0 to 3 x) (hn : At w 0 to 7 n) (hf : ForRoot w to id sign f) where
-  count_so : count_by k f (within 1 2 x) (within 1 most_nodes n) (within 6 9 x) n ≡ nodes_after (asked id sign) (some (row w to))
-  count_so =
-      ap (λ (j : ℕ). count_by j f (within 1 2 x) (within 1 most_nodes n) (within 6 9 x) n) hk.is
-      ∙ ap (λ (g : Bool). count_by (cell (row w to) 0) g (within 1 2 x) (within 1 most_nodes n) (within 6 9 x) n) hf.is
-      ∙ ap₂ {C = Option ℕ} (λ (y m : ℕ). count_by (cell (row w to) 0) (for_root (asked id sign) (row w to)) (within 1 2 y) (within 1 most_nodes m) (within 6 9 y) m) hx.is hn.is
-
-  counted : (r : Num) → num_of r ≡ count_by k f (within 1 2 x) (within 1 most_nodes n) (within 6 9 x) n → Count w to id sign r
-  counted r e = record { is = e ∙ count_so }
-
-  pub count_other : not f ≡ true → Count w to id sign No
-  count_other e = counted No (sym (simp (not-true f e, if_false)))
-
-  module _ (ef : not f ≡ false) where
-    module _ (e : k ≡ 1) {p : Bool} (hp : Within 1 2 x p) where
-      pub count_passes : not p ≡ true → Count w to id sign No
-      count_passes ep = counted No (sym (simp (not-false f ef, eq-eqb k 1 e, ne_eqb k 2 (omega arith), sym hp.is, not-true p ep)))
-
-      module _ (ep : not p ≡ false) {q : Bool} (hq : Within 1 most_nodes n q) where
-        pub count_many : not q ≡ true → Count w to id sign No
-        count_many eq = counted No (sym (simp (not-false f ef, eq-eqb k 1 e, ne_eqb k 2 (omega arith), sym hp.is, not-false p ep, sym hq.is, not-true q eq)))
-
-        pub count_shown : {r : Num} → not q ≡ false → r ≡ Is n → Count w to id sign r
-        count_shown {r} eq z = counted r (ap num_of z ∙ sym (simp (not-false f ef, eq-eqb k 1 e, sym hp.is, not-false p ep, sym hq.is, not-false q eq)))
-
-    module _ (e : k ≡ 2) {p : Bool} (hp : Within 6 9 x p) where
-      pub count_refused : p ≡ true → Count w to id sign (Is 0)
-      count_refused ep = counted (Is 0) (sym (simp (not-false f ef, eq-eqb k 2 e, ne_eqb k 1 (omega arith), sym hp.is, ep)))
-
-      pub count_unknown : p ≡ false → Count w to id sign No
-      count_unknown ep = counted No (sym (simp (not-false f ef, eq-eqb k 2 e, ne_eqb k 1 (omega arith), sym hp.is, ep)))
-
-    pub count_none : (k ≡ 1 → ⊥) → (k ≡ 2 → ⊥) → Count w to id sign No
-    count_none a b = counted No (sym (simp (ne_eqb k 1 a, ne_eqb k 2 b)))

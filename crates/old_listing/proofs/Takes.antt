@@ -1,6 +1,6 @@
 -- Lines of an old listing, taken one by one. Assumes nothing.
 use mathlib.Core.Path.{◌≡◌, refl, sym, ap, ap₂, subst, ◌∙◌}
-use mathlib.Core.Bool.{Bool, true, false, not}
+use mathlib.Core.Bool.{Bool, true, false, not, ◌&&◌}
 use mathlib.Core.Logic.{⊎_elim}
 use Prim.Native.Nat.{ℕ, suc, ◌+◌, ◌-◌, ◌≤◌, ◌<◌}
 use native.Mathlib.Omega.{arith}
@@ -10,6 +10,7 @@ use mathlib.Core.List.{List, [], ◌∷◌, ◌++◌, append-nil, append_assoc}
 use lib.ListN.{length, get_or, set, take, drop, length-set, drop_of_length-le}
 use lib.Seq.{get_or-set_same, get_or-set_other, drop-cons}
 use lib.Dec.{eqb}
+use lib.Pointwise.{pointwise}
 use borrow.Author.Tests.{eq-eqb, ne_eqb, lt-ltb, le-ltb, not-true, not-false}
 use Rattle.cells.specs.Part.{if, cell, run, eq_list}
 use Rattle.cells.proofs.Parts.{run_snoc, run_ext}
@@ -24,46 +25,18 @@ use Rattle.rules.specs.declared.Form.TheVariants.{Plain, Numbered}
 use Rattle.rules.specs.Listing.{take_numbered}
 use Rattle.rules.specs.Listing.{head_kinds, is_number, row_fits, node_line_fits, node_in_form, Taking, next_line, take_line, take_node, take_nodes, nodes_after, take_after}
 use Rattle.rules.specs.Listing.{take_root, at_end, take_roots, is_answers, old_listing}
-use Rattle.laws.proofs.Storing.{eq_list_told}
-use Rattle.text.specs.declared.Num.{Num}
-use Rattle.text.specs.declared.Num.TheVariants.{No, Is}
-use Rattle.text.specs.declared.Got.{Got}
-use Rattle.text.specs.declared.Got.TheVariants.{Bad, To}
 use Rattle.text.specs.Reads.{span, span_at, left, num_of, got_words, Seek, Number, FieldRoom, Row}
-use Rattle.text.proofs.Spans.{span_none, span_next, span_snoc, span_append, span_whole, part_taken}
+use Rattle.text.proofs.Spans.{span_none, span_next, span_snoc, span_append, span_whole}
+use Rattle.cells.proofs.Parts.{part_taken}
 use Rattle.text.proofs.Leaves.{cut_some}
 use Rattle.text.proofs.Shaping.{pieces_here}
-use Rattle.table.specs.Rows.{At}
-use Rattle.old_listing.specs.declared.Old.{Old}
-use Rattle.old_listing.specs.declared.Old.TheVariants.{InForm, Refused}
+use Rattle.std.specs.Prelude.{Result as Ended, Ok, Err, Option as Maybe, Some, None}
+use Rattle.old_listing.specs.declared.LineAtFault.{LineAtFault}
 use Rattle.old_listing.specs.declared.Reached.{Reached}
-use Rattle.old_listing.specs.declared.Reached.TheVariants.{At as AtV, Fault}
-use Rattle.old_listing.specs.Olds.{asked, row, NodeFits, NodeLine, Ready, taking_at, next_of, Goes, Nodes, Count, After, TakesRoot, RootsAt, RootWord}
+use Rattle.old_listing.specs.declared.Root.{Root as Named}
+use Rattle.old_listing.specs.Olds.{asked, NodeFits, NodeLine, EndsAt, Endless, Ready, taking_at, next_of, Goes, Nodes, count_of, After, TakesRoot, RootsAt, RootAt}
 use Rattle.old_listing.specs.Olds.{Roots, IsAnswers, IsNumbered, TakesHeader, Read}
 use mathlib.Core.Option.{Option, none, some}
-
--- a line's row, or none
-pub after_bad : {s w w' : List ℕ} {from to id sign : ℕ} {r : Got} → Row head_kinds s from to 0 w w' r → r ≡ Bad → After s from to id sign No
-after_bad {w' = w'} {id} {sign} h e = record { is = ap (nodes_after (asked id sign)) (ap (got_words 0 w') (sym e) ∙ h.wrote.is) }
-
-pub after_count : {s w w' : List ℕ} {from to id sign t : ℕ} {r : Got} {n : Num} → Row head_kinds s from to 0 w w' r → r ≡ To t → Count w' t id sign n → After s from to id sign n
-after_count {w' = w'} {id} {sign} h e c = record { is = c.is ∙ ap (nodes_after (asked id sign)) (ap (got_words 0 w') (sym e) ∙ h.wrote.is) }
-
-pub answers_bad : {s w w' : List ℕ} {from to n : ℕ} {r : Got} → Row head_kinds s from to 0 w w' r → r ≡ Bad → IsAnswers s from to n false
-answers_bad {w' = w'} {n = n} h e = record { is = ap (is_answers n) (ap (got_words 0 w') (sym e) ∙ h.wrote.is) }
-
-answers_so : (s w w' : List ℕ) (from to n t x : ℕ) (r : Got) (b : Bool) → Row head_kinds s from to 0 w w' r → r ≡ To t → At w' 0 t 0 x → eqb x 0 ≡ b
-    → both b (λ _. eqb (cell (row w' t) 1) n) ≡ is_answers n (row_of head_kinds (span s from to))
-answers_so s w w' from to n t x r b h e a f =
-    ap (λ (c : Bool). both c (λ _. eqb (cell (row w' t) 1) n)) (sym f ∙ ap (λ (y : ℕ). eqb y 0) a.is)
-    ∙ ap (is_answers n) (ap (got_words 0 w') (sym e) ∙ h.wrote.is)
-
-module _ {s w w' : List ℕ} {from to n t x : ℕ} {r : Got} (h : Row head_kinds s from to 0 w w' r) (e : r ≡ To t) (a : At w' 0 t 0 x) where
-  pub answers_yes : {y : ℕ} → x ≡ 0 → At w' 0 t 1 y → IsAnswers s from to n (eqb y n)
-  answers_yes f b = record { is = ap (λ (z : ℕ). eqb z n) b.is ∙ answers_so s w w' from to n t x r true h e a (eq-eqb x 0 f) }
-
-  pub answers_no : (x ≡ 0 → ⊥) → IsAnswers s from to n false
-  answers_no f = record { is = answers_so s w w' from to n t x r false h e a (ne_eqb x 0 f) }
 
 -- a node's line: its number and the rest
 form_so : (s : List ℕ) (from to k names i : ℕ) (m : Option ℕ) → Seek s from to 9 k → m ≡ number (span s from k)
@@ -73,23 +46,23 @@ form_so s from to k names i m y e =
     ap (λ (z : Option ℕ). both (is_number i z) (λ _. row_fits names i (by_word node_kinds (left s (k + 1) to)))) e
     ∙ ap (node_line_fits names i) (sym (pieces_here s from to k y))
 
-numbered : (s : List ℕ) (from to k names i n : ℕ) (m : Num) → Seek s from to 9 k → Number s from k m → m ≡ Is n → n ≡ i
+numbered : (s : List ℕ) (from to k names i n : ℕ) (m : Maybe ℕ) → Seek s from to 9 k → Number s from k m → m ≡ Some n → n ≡ i
     → row_fits names i (by_word node_kinds (left s (k + 1) to)) ≡ node_in_form names i (span s from to)
 numbered s from to k names i n m y h e f =
     ap (λ (b : Bool). both b (λ _. row_fits names i (by_word node_kinds (left s (k + 1) to)))) (sym (eq-eqb n i f))
     ∙ form_so s from to k names i (some n) y (ap num_of (sym e) ∙ h.is)
 
-rest_so : (s : List ℕ) (k to : ℕ) (w w' : List ℕ) (r : Got) → k < to → Row node_kinds s (k + 1) to 0 w w' r → got_words 0 w' r ≡ by_word node_kinds (left s (k + 1) to)
+rest_so : (s : List ℕ) (k to : ℕ) (w w' : List ℕ) (r : Maybe ℕ) → k < to → Row node_kinds s (k + 1) to 0 w w' r → got_words 0 w' r ≡ by_word node_kinds (left s (k + 1) to)
 unfolding row_of
 rest_so s k to w w' r l q =
     let z : left s (k + 1) to ≡ pieces tab (span s (k + 1) to) = simp (le-ltb to (k + 1) (omega arith)) in
     q.wrote.is ∙ ap (by_word node_kinds) (sym z)
 
-module _ {s : List ℕ} {from to k names i : ℕ} {m : Num} (y : Seek s from to 9 k) (h : Number s from k m) where
-  pub line_unnumbered : m ≡ No → NodeLine s from to names i false
+module _ {s : List ℕ} {from to k names i : ℕ} {m : Maybe ℕ} (y : Seek s from to 9 k) (h : Number s from k m) where
+  pub line_unnumbered : m ≡ None → NodeLine s from to names i false
   line_unnumbered e = record { is = form_so s from to k names i none y (ap num_of (sym e) ∙ h.is) }
 
-  module _ {n : ℕ} (e : m ≡ Is n) where
+  module _ {n : ℕ} (e : m ≡ Some n) where
     pub line_misnumbered : (n ≡ i → ⊥) → NodeLine s from to names i false
     line_misnumbered f = record {
       is =
@@ -102,13 +75,13 @@ module _ {s : List ℕ} {from to k names i : ℕ} {m : Num} (y : Seek s from to 
         let z : left s (k + 1) to ≡ [] = simp (lt-ltb to (k + 1) (omega arith)) in
         record { is = ap (λ (q : List (List ℕ)). row_fits names i (by_word node_kinds q)) (sym z) ∙ numbered s from to k names i n m y h e f }
 
-    module _ (f : n ≡ i) (g : k ≡ to → ⊥) {w w' : List ℕ} {r : Got} (q : Row node_kinds s (k + 1) to 0 w w' r) where
-      pub line_bad : r ≡ Bad → NodeLine s from to names i false
+    module _ (f : n ≡ i) (g : k ≡ to → ⊥) {w w' : List ℕ} {r : Maybe ℕ} (q : Row node_kinds s (k + 1) to 0 w w' r) where
+      pub line_bad : r ≡ None → NodeLine s from to names i false
       line_bad d = record {
         is = ap (row_fits names i) (ap (got_words 0 w') (sym d) ∙ rest_so s k to w w' r (omega (arith, y.high)) q) ∙ numbered s from to k names i n m y h e f;
       }
 
-      pub line_good : {t : ℕ} {b : Bool} → r ≡ To t → NodeFits w' t names i b → NodeLine s from to names i b
+      pub line_good : {t : ℕ} {b : Bool} → r ≡ Some t → NodeFits w' t names i b → NodeLine s from to names i b
       line_good d a = record {
         is = a.is ∙ ap (row_fits names i) (ap (got_words 0 w') (sym d) ∙ rest_so s k to w w' r (omega (arith, y.high)) q) ∙ numbered s from to k names i n m y h e f;
       }
@@ -148,9 +121,9 @@ walk_start {s} {w} {from} {k} {names} {n} h = record {
   is = λ a l. ap (λ (m : ℕ). take_nodes names 0 m (taking_at s a from k)) (let z : n - 0 ≡ n = omega arith in z);
 }
 
-pub walk_done : {s : List ℕ} {from k names n at line i : ℕ} → Walking s from k names n at line i → n ≤ i → Nodes s from k names n (AtV at line)
-walk_done {s} {from} {k} {names} {n} {at} {line} {i} inv h = record {
-  is = λ a l. ap (λ (m : ℕ). take_nodes names i m (taking_at s a at line)) (let z : 0 ≡ n - i = omega arith in z) ∙ inv.is a l;
+pub walk_done : {s : List ℕ} {from k names n : ℕ} {p : Reached} {i : ℕ} → Walking s from k names n p.at p.line i → n ≤ i → Nodes s from k names n (Ok p)
+walk_done {s} {from} {k} {names} {n} {p} {i} inv h = record {
+  is = λ a l. ap (λ (m : ℕ). take_nodes names i m (taking_at s a p.at p.line)) (let z : 0 ≡ n - i = omega arith in z) ∙ inv.is a l;
   goes = (inv.low, inv.high, inv.early);
 }
 
@@ -179,71 +152,77 @@ turn_so s from k names n at line i e a b t inv lt y l q f h =
         next_here line (λ l ls. if (node_in_form names i l) (λ _. accepted (take_line (taking_at s a at line) l ls)) (λ _. refused 11 line)) s at (length s) e y l
         ∙ ap₂ {C = Result Taking} (λ (u : Bool) (d : Taking). if u (λ _. accepted d) (λ _. refused 11 line)) (sym q.is ∙ f) (taken_so s a at e line (omega (arith, inv.low)) y l)
 
-module _ {s : List ℕ} {from k names n at line i e : ℕ} (inv : Walking s from k names n at line i) (lt : i < n) (y : Seek s at (length s) 10 e) where
-  pub walk_last : e ≡ length s → Nodes s from k names n (Fault line)
-  walk_last h = record {
+module _ {s : List ℕ} {from k names n at line i : ℕ} (inv : Walking s from k names n at line i) (lt : i < n) where
+  pub walk_last : {f : LineAtFault} → Endless s at line f → Nodes s from k names n (Err f)
+  walk_last {f} y = record {
     is = λ a l.
-        ap (λ (o : Result Taking). then o (λ (d : Taking). take_nodes names (i + 1) (n - (i + 1)) d))
-        (sym (next_last line (λ l ls. if (node_in_form names i l) (λ _. accepted (take_line (taking_at s a at line) l ls)) (λ _. refused 11 line)) s at (length s) e y h))
+        ap (λ (m : ℕ). refused 11 m) y.line
+        ∙ ap (λ (o : Result Taking). then o (λ (d : Taking). take_nodes names (i + 1) (n - (i + 1)) d))
+        (sym (next_last line (λ l ls. if (node_in_form names i l) (λ _. accepted (take_line (taking_at s a at line) l ls)) (λ _. refused 11 line)) s at (length s) (length s) y.seek refl))
         ∙ walk_turn s from k names n at line i a inv lt l;
     goes = tt;
   }
 
-  module _ {b : Bool} (h : (e ≡ length s → ⊥)) (q : NodeLine s at e names i b) where
-    pub walk_bad : not b ≡ true → Nodes s from k names n (Fault line)
-    walk_bad f = record {
-      is = λ a l. turn_so s from k names n at line i e a b false inv lt y (omega (arith, y.high)) q (not-true b f) l;
+  module _ {e : ℕ} (y : EndsAt s at e) {b : Bool} (q : NodeLine s at e names i b) where
+    pub walk_bad : {f : LineAtFault} → f.0 ≡ line → not b ≡ true → Nodes s from k names n (Err f)
+    walk_bad h f = record {
+      is = λ a l. ap (λ (m : ℕ). refused 11 m) h ∙ turn_so s from k names n at line i e a b false inv lt y.seek y.inside q (not-true b f) l;
       goes = tt;
     }
 
     pub walk_more : not b ≡ false → Walking s from k names n (e + 1) (line + 1) (i + 1)
     walk_more f = record {
       few = omega arith;
-      low = omega (arith, inv.low, y.low);
-      high = omega (arith, y.high);
-      early = omega (arith, inv.early, y.low);
-      is = λ a l. turn_so s from k names n at line i e a b true inv lt y (omega (arith, y.high)) q (not-false b f) l;
+      low = omega (arith, inv.low, y.seek.low);
+      high = omega (arith, y.inside);
+      early = omega (arith, inv.early, y.seek.low);
+      is = λ a l. turn_so s from k names n at line i e a b true inv lt y.seek y.inside q (not-false b f) l;
     }
 
-pub line_room : {s w w' : List ℕ} {from k at e : ℕ} → Ready s from k w → length w' ≡ length w → Seek s at (length s) 10 e → (e ≡ length s → ⊥) → FieldRoom s at e w' 0
-line_room g l y h = record { order = y.low; within = y.high; short = g.short; room = omega (arith, y.high, g.short, g.room) }
+pub line_room : {s w w' : List ℕ} {from k at e : ℕ} → Ready s from k w → length w' ≡ length w → EndsAt s at e → FieldRoom s at e w' 0
+line_room g l y = record { order = y.seek.low; within = y.seek.high; short = g.short; room = omega (arith, y.seek.high, g.short, g.room) }
 
 -- a root's lines
-root_so : (s : List ℕ) (from k e names id sign : ℕ) (x : Num) → Seek s from (length s) 10 e → e < length s → After s from e id sign x
-    → take_after names (taking_at s from (e + 1) (k + 1)) (num_of x) k ≡ take_root names (asked id sign) (taking_at s from from k)
+root_so : (s : List ℕ) (from k e names id sign : ℕ) (x : Maybe ℕ) → Seek s from (length s) 10 e → e < length s → After s from e id sign x
+    → take_after names (taking_at s from (e + 1) (k + 1)) (count_of x) k ≡ take_root names (asked id sign) (taking_at s from from k)
 root_so s from k e names id sign x y l a =
     ap₂ {C = Result Taking} (λ (d : Taking) (m : Option ℕ). take_after names d m k) (sym (taken_so s from from e k (omega arith) y l)) a.is
     ∙ sym (next_here k (λ l ls. take_after names (take_line (taking_at s from from k) l ls) (nodes_after (asked id sign) (row_of head_kinds l)) k) s from (length s) e y l)
 
-goes_from : (s : List ℕ) (from at : ℕ) (r : Reached) → from ≤ at → Goes s at r → Goes s from r
-goes_from s from at (AtV p k) h g = (omega (arith, g.0), g.1, g.2)
-goes_from s from at (Fault k) h g = tt
+goes_from : (s : List ℕ) (from at : ℕ) (r : Ended Reached LineAtFault) → from ≤ at → Goes s at r → Goes s from r
+goes_from s from at (Ok p) h g = (omega (arith, g.0), g.1, g.2)
+goes_from s from at (Err f) h g = tt
 
-module _ {s : List ℕ} {from k e names id sign : ℕ} (y : Seek s from (length s) 10 e) where
-  pub root_last : e ≡ length s → TakesRoot s from k names id sign (Fault k)
-  root_last h = record {
-    is = sym (next_last k (λ l ls. take_after names (take_line (taking_at s from from k) l ls) (nodes_after (asked id sign) (row_of head_kinds l)) k) s from (length s) e y h);
+module _ {s : List ℕ} {from k names id sign : ℕ} where
+  pub root_last : {f : LineAtFault} → Endless s from k f → TakesRoot s from k names id sign (Err f)
+  root_last {f} y = record {
+    is =
+        ap (λ (m : ℕ). refused 11 m) y.line
+        ∙ sym (next_last k (λ l ls. take_after names (take_line (taking_at s from from k) l ls) (nodes_after (asked id sign) (row_of head_kinds l)) k) s from (length s) (length s) y.seek refl);
     goes = tt;
   }
 
-  module _ (h : (e ≡ length s → ⊥)) {x : Num} (a : After s from e id sign x) where
-    pub root_bad : x ≡ No → TakesRoot s from k names id sign (Fault k)
-    root_bad f = record {
-      is = ap (λ (z : Num). take_after names (taking_at s from (e + 1) (k + 1)) (num_of z) k) (sym f) ∙ root_so s from k e names id sign x y (omega (arith, y.high)) a;
+  module _ {e : ℕ} (y : EndsAt s from e) {x : Maybe ℕ} (a : After s from e id sign x) where
+    pub root_bad : {f : LineAtFault} → f.0 ≡ k → x ≡ None → TakesRoot s from k names id sign (Err f)
+    root_bad h f = record {
+      is =
+          ap (λ (m : ℕ). refused 11 m) h
+          ∙ ap (λ (z : Maybe ℕ). take_after names (taking_at s from (e + 1) (k + 1)) (count_of z) k) (sym f)
+          ∙ root_so s from k e names id sign x y.seek y.inside a;
       goes = tt;
     }
 
-    pub root_good : {n : ℕ} {r : Reached} → x ≡ Is n → Nodes s (e + 1) (k + 1) names n r → TakesRoot s from k names id sign r
+    pub root_good : {n : ℕ} {r : Ended Reached LineAtFault} → x ≡ Some n → Nodes s (e + 1) (k + 1) names n r → TakesRoot s from k names id sign r
     root_good {n} {r} f b = record {
       is =
-          b.is from (omega (arith, y.low))
-          ∙ ap (λ (z : Num). take_after names (taking_at s from (e + 1) (k + 1)) (num_of z) k) (sym f)
-          ∙ root_so s from k e names id sign x y (omega (arith, y.high)) a;
-      goes = goes_from s from (e + 1) r (omega (arith, y.low)) b.goes;
+          b.is from (omega (arith, y.seek.low))
+          ∙ ap (λ (z : Maybe ℕ). take_after names (taking_at s from (e + 1) (k + 1)) (count_of z) k) (sym f)
+          ∙ root_so s from k e names id sign x y.seek y.inside a;
+      goes = goes_from s from (e + 1) r (omega (arith, y.seek.low)) b.goes;
     }
 
-pub root_ready : {s w w' : List ℕ} {from k e : ℕ} → Ready s from k w → length w' ≡ length w → Seek s from (length s) 10 e → (e ≡ length s → ⊥) → Ready s (e + 1) (k + 1) w'
-root_ready g l y h = record { within = omega (arith, y.high); short = g.short; early = omega (arith, g.early, y.low); room = omega (arith, g.room) }
+pub root_ready : {s w w' : List ℕ} {from k e : ℕ} → Ready s from k w → length w' ≡ length w → EndsAt s from e → Ready s (e + 1) (k + 1) w'
+root_ready g l y = record { within = omega (arith, y.inside); short = g.short; early = omega (arith, g.early, y.seek.low); room = omega (arith, g.room) }
 
 -- what is left after the last root
 end_if : (k : ℕ) (g q : List (List ℕ)) (t : Bool) → at_end k g ≡ refused 11 k → at_end k q ≡ refused 11 k → at_end k (if t (λ _. g) (λ _. q)) ≡ refused 11 k
@@ -360,7 +339,7 @@ got_more s spans at q i h =
     here = ap₂ {C = List ℕ} (span s) first second
 
 -- root i, and those after it
-step_so : (s : List ℕ) (names at line i : ℕ) (spans : List ℕ) (rs : List Root) (r : Reached) → i < length rs
+step_so : (s : List ℕ) (names at line i : ℕ) (spans : List ℕ) (rs : List Root) (r : Ended Reached LineAtFault) → i < length rs
     → next_of s at r ≡ take_root names (get_or rs i (asked 0 0)) (taking_at s at at line)
     → joined s spans at i (with_rest names (drop (i + 1) rs) (next_of s at r)) ≡ roots_from s names rs spans at line i
 step_so s names at line i spans rs r l e =
@@ -369,29 +348,29 @@ step_so s names at line i spans rs r l e =
     ∙ ap (λ (j : ℕ). joined s spans at i (take_roots names (get_or rs i (asked 0 0) ∷ drop j rs) (taking_at s at at line))) (add-one i)
     ∙ ap (λ (l : List Root). joined s spans at i (take_roots names l (taking_at s at at line))) (sym (drop-cons rs i (asked 0 0) l))
 
-module _ {s table spans₀ spans spans₁ : List ℕ} {from start names first n at line i id sign : ℕ} {r : Reached} (inv : Rooting s from start names table first n spans₀ spans at line i)
-    (lt : i < n) (st : spans₁ ≡ set spans i at) (a : RootWord table first i 1 id) (b : RootWord table first i 2 sign) (h : TakesRoot s at line names id sign r) where
+module _ {s table spans₀ spans spans₁ : List ℕ} {from start names first n at line i : ℕ} {root : Named} {r : Ended Reached LineAtFault} (inv : Rooting s from start names table first n spans₀ spans at line i)
+    (lt : i < n) (st : spans₁ ≡ set spans i at) (a : RootAt table first i root) (h : TakesRoot s at line names root.id root.sign r) where
   root_here : (rs : List Root) → RootsAt rs table first n → next_of s at r ≡ take_root names (get_or rs i (asked 0 0)) (taking_at s at at line)
   root_here rs g =
-      h.is ∙ ap (λ (root : Root). take_root names root (taking_at s at at line)) (ap₂ {C = Root} asked a.is b.is ∙ g.is i lt)
+      h.is ∙ ap (λ (o : Root). take_root names o (taking_at s at at line)) (ap₂ {C = Root} asked a.id a.sign ∙ g.is i lt)
 
-  step_here : (rs : List Root) → RootsAt rs table first n → n < length spans₀ → (z : Reached) → r ≡ z
+  step_here : (rs : List Root) → RootsAt rs table first n → n < length spans₀ → (z : Ended Reached LineAtFault) → r ≡ z
       → joined s spans at i (with_rest names (drop (i + 1) rs) (next_of s at z)) ≡ take_roots names rs (taking_at s 0 from start)
   step_here rs g l z e =
-      ap (λ (y : Reached). joined s spans at i (with_rest names (drop (i + 1) rs) (next_of s at y))) (sym e)
+      ap (λ (y : Ended Reached LineAtFault). joined s spans at i (with_rest names (drop (i + 1) rs) (next_of s at y))) (sym e)
       ∙ step_so s names at line i spans rs r (let c = g.count in omega arith) (root_here rs g)
       ∙ inv.is rs g l
 
-  pub rooting_fault : {k : ℕ} → r ≡ Fault k → Roots s from start names table first n spans₀ spans₁ (Refused k)
-  rooting_fault {k} e = record {
-    is = λ rs g l. step_here rs g l (Fault k) e;
+  pub rooting_fault : {f : LineAtFault} → r ≡ Err f → Roots s from start names table first n spans₀ spans₁ (Err f)
+  rooting_fault {f} e = record {
+    is = λ rs g l. step_here rs g l (Err f) e;
     lies = λ l. tt;
     kept = λ j m. ap (λ (w : List ℕ). cell w j) st ∙ set_others spans₀ spans i at n (omega arith) inv.others j m;
   }
 
-  pub rooting_more : {q k : ℕ} → r ≡ AtV q k → Rooting s from start names table first n spans₀ spans₁ q k (i + 1)
-  rooting_more {q} {k} e =
-      let b : Goes s at (AtV q k) = subst (Goes s at) e h.goes in
+  pub rooting_more : {p : Reached} → r ≡ Ok p → Rooting s from start names table first n spans₀ spans₁ p.at p.line (i + 1)
+  rooting_more {p} e =
+      let b : Goes s at (Ok p) = subst (Goes s at) e h.goes in
       record {
         few = omega arith;
         high = b.1;
@@ -402,10 +381,10 @@ module _ {s table spans₀ spans spans₁ : List ℕ} {from start names first n 
         others = λ j m. ap (λ (w : List ℕ). cell w j) st ∙ set_others spans₀ spans i at n (omega arith) inv.others j m;
         is = λ rs g l.
             ap₂ {C = Result (List (List ℕ))} (λ (m : Result (List (List ℕ))) (got : List (List ℕ)). then m (λ (ts : List (List ℕ)). accepted (got ++ ts)))
-            (roots_blank s names q at q k (drop (i + 1) rs))
-            (ap (λ (w : List ℕ). run (span_at s (set w (i + 1) q)) 0 (i + 1)) st ∙ got_more s spans at q i (let c = inv.kept in omega arith))
-            ∙ sym (then_more (take_roots names (drop (i + 1) rs) (taking_at s at q k)) (span s at q) (run (span_at s (set spans i at)) 0 i))
-            ∙ step_here rs g l (AtV q k) e;
+            (roots_blank s names p.at at p.at p.line (drop (i + 1) rs))
+            (ap (λ (w : List ℕ). run (span_at s (set w (i + 1) p.at)) 0 (i + 1)) st ∙ got_more s spans at p.at i (let c = inv.kept in omega arith))
+            ∙ sym (then_more (take_roots names (drop (i + 1) rs) (taking_at s at p.at p.line)) (span s at p.at) (run (span_at s (set spans i at)) 0 i))
+            ∙ step_here rs g l (Ok p) e;
       }
 
 -- after the last root
@@ -422,14 +401,14 @@ module _ {s table spans₀ spans : List ℕ} {from start names first n at line i
     untouched : (k : ℕ) → n < k → cell spans₁ k ≡ cell spans₀ k
     untouched k lt = ap (λ (w : List ℕ). cell w k) st ∙ set_others spans₀ spans n at n (omega arith) inv.others k lt
 
-    pub rooting_surplus : at < length s → Roots s from start names table first n spans₀ spans₁ (Refused line)
-    rooting_surplus l = record {
-      is = λ rs g m. last_so rs (refused 11 line) g m (end_surplus s at line l);
+    pub rooting_surplus : {f : LineAtFault} → f.0 ≡ line → at < length s → Roots s from start names table first n spans₀ spans₁ (Err f)
+    rooting_surplus e l = record {
+      is = λ rs g m. ap (λ (k : ℕ). refused 11 k) e ∙ last_so rs (refused 11 line) g m (end_surplus s at line l);
       lies = λ m. tt;
       kept = untouched;
     }
 
-    pub rooting_done : length s ≤ at → Roots s from start names table first n spans₀ spans₁ InForm
+    pub rooting_done : length s ≤ at → Roots s from start names table first n spans₀ spans₁ (Ok tt)
     rooting_done l = record {
       is = λ rs g m.
           ap (λ (q : List (List ℕ)). accepted q) (ap (λ (w : List ℕ). run (span_at s w) 0 n) st ∙ sym (append-nil (run (span_at s (set spans n at)) 0 n)))
@@ -443,41 +422,40 @@ pub rooting_ready : {s w w' table spans₀ spans : List ℕ} {from start names f
     → Rooting s from start names table first n spans₀ spans at line i → Ready s at line w'
 rooting_ready g l inv = record { within = inv.high; short = g.short; early = inv.early; room = omega (arith, g.room) }
 
+and_if : (a b : Bool) → (a && b) ≡ if a (λ _. b) (λ _. false)
+and_if true b = refl
+and_if false b = refl
+
+same_lists : (x y : List ℕ) → pointwise eqb x y ≡ eq_list x y
+same_lists [] [] = refl
+same_lists [] (b ∷ y) = refl
+same_lists (a ∷ x) [] = refl
+same_lists (a ∷ x) (b ∷ y) = simp (same_lists x y) (and_if (eqb a b) (eq_list x y))
+
 pub numbered_same : {s : List ℕ} {from to : ℕ} {b : Bool} → from ≤ to → to ≤ length s
-    → (b ≡ true → take (to - from) (drop from s) ≡ ascii "numbered") × (take (to - from) (drop from s) ≡ ascii "numbered" → b ≡ true) → IsNumbered s from to b
-numbered_same {s} {from} {to} {b} h l f = record {
-  is = sym (eq_list_told b _ (take (to - from) (drop from s)) (ascii "numbered") f refl)
+    → b ≡ pointwise eqb (take (to - from) (drop from s)) (ascii "numbered") → IsNumbered s from to b
+numbered_same {s} {from} {to} h l e = record {
+  is =
+      e
+      ∙ same_lists (take (to - from) (drop from s)) (ascii "numbered")
       ∙ ap (λ (w : List ℕ). eq_list w (ascii "numbered")) (part_taken s from (to - from) (omega arith));
 }
 
 abbrev numbered_line : List ℕ → ℕ → List ℕ → List (List ℕ) → Result Taking
 numbered_line s from l ls = if (eq_list l (ascii "numbered")) (λ _. accepted (take_line (taking_at s 0 from 2) l ls)) (λ _. refused 11 2)
 
--- the line `numbered`, or none
-module _ {form : Form} {s : List ℕ} {from : ℕ} (one : 1 ≤ from) (within : from ≤ length s) where
-  pub header_none : form ≡ Plain → TakesHeader form s from (AtV from 2)
-  header_none e = record { is = ap (λ (f : Form). take_numbered f (taking_at s 0 from 2)) (sym e); goes = (omega arith, within, omega arith) }
-
-  module _ {e : ℕ} (f : form ≡ Numbered) (y : Seek s from (length s) 10 e) where
-    pub header_last : e ≡ length s → TakesHeader form s from (Fault 2)
-    header_last h = record {
-      is = sym (next_last 2 (numbered_line s from) s from (length s) e y h) ∙ ap (λ (f : Form). take_numbered f (taking_at s 0 from 2)) (sym f);
-      goes = tt;
-    }
-
-    module _ (h : (e ≡ length s → ⊥)) {b : Bool} (a : IsNumbered s from e b) where
-      header_so : (t : Bool) → b ≡ t → if t (λ _. accepted (taking_at s 0 (e + 1) 3)) (λ _. refused 11 2) ≡ take_numbered form (taking_at s 0 from 2)
-      header_so t q =
-          ap₂ {C = Result Taking} (λ (u : Bool) (d : Taking). if u (λ _. accepted d) (λ _. refused 11 2)) (sym q ∙ a.is)
-          (sym (taken_so s 0 from e 2 (omega arith) y (omega (arith, y.high))))
-          ∙ sym (next_here 2 (numbered_line s from) s from (length s) e y (omega (arith, y.high)))
-          ∙ ap (λ (f : Form). take_numbered f (taking_at s 0 from 2)) (sym f)
-
-      pub header_other : not b ≡ true → TakesHeader form s from (Fault 2)
-      header_other q = record { is = header_so false (not-true b q); goes = tt }
-
-      pub header_line : not b ≡ false → TakesHeader form s from (AtV (e + 1) 3)
-      header_line q = record { is = header_so true (not-false b q); goes = (omega (arith, y.low), omega (arith, y.high), omega (arith, y.low)) }
+-- the line `numbered`
+module _ {form : Form} {s : List ℕ} {from e : ℕ} (one : 1 ≤ from) (within : from ≤ length s) (f : form ≡ Numbered) (y : EndsAt s from e) {b : Bool} (a : IsNumbered s from e b) where
+  pub header_line : {p : Reached} → p.at ≡ e + 1 → p.line ≡ 3 → not b ≡ false → TakesHeader form s from (Ok p)
+  header_line {p} c d q = record {
+    is =
+        ap₂ {C = Result Taking} (λ (x k : ℕ). accepted (taking_at s 0 x k)) c d
+        ∙ ap₂ {C = Result Taking} (λ (u : Bool) (t : Taking). if u (λ _. accepted t) (λ _. refused 11 2)) (sym (not-false b q) ∙ a.is)
+        (sym (taken_so s 0 from e 2 (omega arith) y.seek y.inside))
+        ∙ sym (next_here 2 (numbered_line s from) s from (length s) e y.seek y.inside)
+        ∙ ap (λ (g : Form). take_numbered g (taking_at s 0 from 2)) (sym f);
+    goes = (omega (arith, y.seek.low), omega (arith, y.inside), omega (arith, y.seek.low));
+  }
 
 -- the whole listing
 abbrev first_line : Form → ℕ → List Root → List ℕ → List (List ℕ) → Result (List (List ℕ))
@@ -498,10 +476,10 @@ long_so form names rs s h =
     ap (λ (b : Bool). if b (λ _. refused 11 0) (λ _. next_line 1 (pieces line_feed s) (first_line form names rs))) (sym (lt-ltb most_text (length s) h))
 
 module _ {form : Form} {s table spans w : List ℕ} {names first n : ℕ} where
-  pub old_long : most_text < length s → Read form s names table first n spans w spans (Refused 0)
-  old_long h = record { is = λ rs g l m. long_so form names rs s h; lies = λ l. tt; kept = λ k lt. refl }
+  pub old_long : {f : LineAtFault} → f.0 ≡ 0 → most_text < length s → Read form s names table first n spans w spans (Err f)
+  old_long e h = record { is = λ rs g l m. ap (λ (k : ℕ). refused 11 k) e ∙ long_so form names rs s h; lies = λ l. tt; kept = λ k lt. refl }
 
-  pub old_poor : length w < line_length → Read form s names table first n spans w spans (Refused 0)
+  pub old_poor : {f : LineAtFault} → length w < line_length → Read form s names table first n spans w spans (Err f)
   old_poor h = record { is = λ rs g l m. absurd (let z : ⊥ = omega arith in z); lies = λ l. tt; kept = λ k lt. refl }
 
 -- what was taken before the roots makes no difference to them
@@ -538,44 +516,42 @@ first_so form s names n e rs b t h y l a f c =
     ∙ old_so form names rs s h
 
 -- what the header comes to, and the roots after it
-header_here : (form : Form) (s : List ℕ) (names n e : ℕ) (rs : List Root) (b : Bool) (r z : Reached) → length s ≤ most_text → Seek s 0 (length s) 10 e → e < length s
-    → IsAnswers s 0 e n b → not b ≡ false → length rs ≡ n → TakesHeader form s (e + 1) r → r ≡ z
+header_here : (form : Form) (s : List ℕ) (names n e : ℕ) (rs : List Root) (b : Bool) (r z : Ended Reached LineAtFault) → length s ≤ most_text → Seek s 0 (length s) 10 e → e < length s
+    → IsAnswers s 0 e n b → b ≡ true → length rs ≡ n → TakesHeader form s (e + 1) r → r ≡ z
     → then (next_of s 0 z) (λ (c : Taking). take_roots names rs c) ≡ old_listing form names rs s
 header_here form s names n e rs b r z h y l a f c t q =
     ap (λ (o : Result Taking). then o (λ (c : Taking). take_roots names rs c)) (ap (next_of s 0) (sym q) ∙ t.is)
-    ∙ first_so form s names n e rs b true h y l a (not-false b f) c
+    ∙ first_so form s names n e rs b true h y l a f c
 
-module _ {form : Form} {s table spans w : List ℕ} {names first n e : ℕ} (h : length s ≤ most_text) (y : Seek s 0 (length s) 10 e) where
-  pub old_none : e ≡ length s → Read form s names table first n spans w spans (Refused 1)
-  old_none d = record {
-    is = λ rs g l m. sym (next_last 1 (first_line form names rs) s 0 (length s) e y d) ∙ old_so form names rs s h;
+module _ {form : Form} {s table spans w : List ℕ} {names first n : ℕ} (h : length s ≤ most_text) where
+  pub old_none : {f : LineAtFault} → Endless s 0 1 f → Read form s names table first n spans w spans (Err f)
+  old_none y = record {
+    is = λ rs g l m.
+        ap (λ (k : ℕ). refused 11 k) y.line ∙ sym (next_last 1 (first_line form names rs) s 0 (length s) (length s) y.seek refl) ∙ old_so form names rs s h;
     lies = λ l. tt;
     kept = λ k lt. refl;
   }
 
-  module _ (d : (e ≡ length s → ⊥)) {b : Bool} (a : IsAnswers s 0 e n b) where
-    pub old_other : not b ≡ true → Read form s names table first n spans w spans (Refused 1)
-    old_other f = record {
-      is = λ rs g l m. first_so form s names n e rs b false h y (omega (arith, y.high)) a (not-true b f) g.count;
+  module _ {e : ℕ} (y : EndsAt s 0 e) {b : Bool} (a : IsAnswers s 0 e n b) where
+    pub old_other : {g : LineAtFault} → g.0 ≡ 1 → not b ≡ true → Read form s names table first n spans w spans (Err g)
+    old_other d f = record {
+      is = λ rs g l m. ap (λ (k : ℕ). refused 11 k) d ∙ first_so form s names n e rs b false h y.seek y.inside a (not-true b f) g.count;
       lies = λ l. tt;
       kept = λ k lt. refl;
     }
 
-    module _ {r : Reached} (f : not b ≡ false) (t : TakesHeader form s (e + 1) r) where
-      pub old_header : {k : ℕ} → r ≡ Fault k → Read form s names table first n spans w spans (Refused k)
-      old_header {k} q = record { is = λ rs g l m. header_here form s names n e rs b r (Fault k) h y (omega (arith, y.high)) a f g.count t q; lies = λ l. tt; kept = λ k lt. refl }
+    module _ {r : Ended Reached LineAtFault} (f : b ≡ true) (t : TakesHeader form s (e + 1) r) where
+      pub old_header : {g : LineAtFault} → r ≡ Err g → Read form s names table first n spans w spans (Err g)
+      old_header {g} q = record {
+        is = λ rs c l m. header_here form s names n e rs b r (Err g) h y.seek y.inside a f c.count t q;
+        lies = λ l. tt;
+        kept = λ k lt. refl;
+      }
 
-      pub old_roots : {at k : ℕ} {spans' : List ℕ} {o : Old} → r ≡ AtV at k → Roots s at k names table first n spans spans' o
+      pub old_roots : {p : Reached} {spans' : List ℕ} {o : Ended (Unit {0}) LineAtFault} → r ≡ Ok p → Roots s p.at p.line names table first n spans spans' o
           → Read form s names table first n spans w spans' o
-      old_roots {at} {k} q v = record {
-        is = λ rs g l m. v.is rs g l ∙ header_here form s names n e rs b r (AtV at k) h y (omega (arith, y.high)) a f g.count t q;
+      old_roots {p} q v = record {
+        is = λ rs g l m. v.is rs g l ∙ header_here form s names n e rs b r (Ok p) h y.seek y.inside a f g.count t q;
         lies = v.lies;
         kept = v.kept;
       }
-
--- the roots' lines begin after it
-pub header_ready : {form : Form} {s : List ℕ} (w w' : List ℕ) {from at k : ℕ} {r : Reached} → length s ≤ most_text → line_length ≤ length w → length w' ≡ length w
-    → TakesHeader form s from r → r ≡ AtV at k → Ready s at k w'
-header_ready {s = s} w w' {from} {at} {k} short room l t q =
-    let g : Goes s from (AtV at k) = subst (Goes s from) q t.goes in
-    record { within = g.1; short = short; early = g.2; room = omega arith }

@@ -5,33 +5,50 @@ ghost use Rattle.std.specs.Prelude.{◌≤◌, length};
 ghost use Rattle.rules.specs.Types.{node_kinds};
 ghost use Rattle.rules.specs.Listing.{head_kinds};
 ghost use Rattle.text.specs.Reads.{FieldRoom, Row};
-ghost use Rattle.old_listing.specs.Olds.{SetFits, MembersFit, NodeFits, NodeLine, Ready, Nodes, Within, ForRoot, Count, After};
-ghost use Rattle.old_listing.specs.Olds.{TakesRoot, RootWord, Roots, IsAnswers, IsNumbered, TakesHeader, Read};
+ghost use Rattle.old_listing.specs.Olds.{LineEnd, SetFits, MembersFit, NodeFits, NodeLine, Ready, Nodes, ForRoot, Count, After};
+ghost use Rattle.old_listing.specs.Olds.{TakesRoot, RootAt, Roots, IsAnswers, IsNumbered, TakesHeader, Read};
 
 use cells::{get, place};
-use lang_ty::arena::Pass;
+use lang_ty::arena::{OutputTy, Pass};
 use layout::ArenaSlice;
 use rules::Form;
 use table::{Table, ranges, rows};
+use text::kinds;
 use text::kinds::{HEADS, NODES};
-use text::{Got, Num, kinds};
 
+// The earliest line that is not in form; 0 where the text is too long or the words are too few.
 #[derive(Clone, Copy)]
-pub enum Old {
-    InForm,
-    // the earliest line at fault
-    Refused(u32),
+pub struct LineAtFault(pub u32);
+
+// Where the next line begins, and its number.
+#[derive(Clone, Copy)]
+struct Reached {
+    at: usize,
+    line: u32,
 }
 
-// Where the next line begins, and its number; or the line at fault.
+// What a line of a root has to name.
 #[derive(Clone, Copy)]
-pub enum Reached {
-    At(usize, u32),
-    Fault(u32),
+struct Root {
+    id: u32,
+    sign: u32,
+}
+
+// Where the line at next ends; one without an end is at fault.
+fn line_end(s: &[u8], next: Reached) -> Result<usize, LineAtFault>
+    requires { next.at ≤ length s.now }
+    ensures { LineEnd s.now next.at next.line result }
+{
+    let m = s.len();
+    let e = text::seek(s, next.at, m, b'\n');
+    if e == m {
+        return Err(LineAtFault(next.line));
+    }
+    Ok(e)
 }
 
 // The row of a node line after its number.
-fn node_row(s: &[u8], from: usize, to: usize, words: &mut [u32]) -> Got
+fn node_row(s: &[u8], from: usize, to: usize, words: &mut [u32]) -> Option<usize>
     requires { FieldRoom s.now from to words.old 0 }
     ensures { Row node_kinds s.now from to 0 words.old words.new result }
 {
@@ -39,7 +56,7 @@ fn node_row(s: &[u8], from: usize, to: usize, words: &mut [u32]) -> Got
 }
 
 // The row of a line that is no node's.
-fn head_row(s: &[u8], from: usize, to: usize, words: &mut [u32]) -> Got
+fn head_row(s: &[u8], from: usize, to: usize, words: &mut [u32]) -> Option<usize>
     requires { FieldRoom s.now from to words.old 0 }
     ensures { Row head_kinds s.now from to 0 words.old words.new result }
 {
@@ -51,16 +68,10 @@ fn set_fits(words: &[u32], to: usize, names: u32, i: u32) -> bool
     ensures { SetFits words.now to names i result }
 {
     let p = rows::places_of(words, 0, to);
-    if !ranges::set_known(words, 0, to, p, i as usize) {
-        return false;
-    }
-    if !rows::ascend(words, 0, to, 2, 2, p.fields) {
-        return false;
-    }
-    if !rows::ascend(words, 0, to, p.opens + 2, 1, p.optional) {
-        return false;
-    }
-    ranges::keys_known(words, 0, to, p, names as usize)
+    ranges::set_known(words, 0, to, p, i as usize)
+        && rows::ascend(words, 0, to, 2, 2, p.fields)
+        && rows::ascend(words, 0, to, p.opens + 2, 1, p.optional)
+        && ranges::keys_known(words, 0, to, p, names as usize)
 }
 
 // Whether the members in the row that ends at to come before i and are no more than a list may have.
@@ -68,39 +79,21 @@ fn members_fit(words: &[u32], to: usize, i: u32) -> bool
     ensures { MembersFit words.now to i result }
 {
     let n = rows::at(words, 0, to, 1);
-    if rows::below(words, 0, to, 2, 1, n as usize, i as usize) {
-        return n <= Pass::MEMBERS;
-    }
-    false
+    rows::below(words, 0, to, 2, 1, n as usize, i as usize) && n <= Pass::MEMBERS
 }
 
 // Whether the row that ends at to fits node i.
 fn node_fits(words: &[u32], to: usize, names: u32, i: u32) -> bool
     ensures { NodeFits words.now to names i result }
 {
-    let kind = rows::at(words, 0, to, 0);
-    if kind == 4 {
-        return set_fits(words, to, names, i);
+    match OutputTy::of_word(rows::at(words, 0, to, 0)) {
+        OutputTy::AttrSet => set_fits(words, to, names, i),
+        OutputTy::Union | OutputTy::Intersection => members_fit(words, to, i),
+        OutputTy::Lambda => rows::below(words, 0, to, 1, 1, 2, i as usize),
+        OutputTy::Named => rows::below(words, 0, to, 2, 1, 1, i as usize),
+        OutputTy::List | OutputTy::Neg => rows::below(words, 0, to, 1, 1, 1, i as usize),
+        _ => true,
     }
-    if kind == 5 {
-        return members_fit(words, to, i);
-    }
-    if kind == 6 {
-        return members_fit(words, to, i);
-    }
-    if kind == 3 {
-        return rows::below(words, 0, to, 1, 1, 2, i as usize);
-    }
-    if kind == 7 {
-        return rows::below(words, 0, to, 2, 1, 1, i as usize);
-    }
-    if kind == 2 {
-        return rows::below(words, 0, to, 1, 1, 1, i as usize);
-    }
-    if kind == 8 {
-        return rows::below(words, 0, to, 1, 1, 1, i as usize);
-    }
-    true
 }
 
 // Whether the line between from and to is node i's, in form.
@@ -108,166 +101,134 @@ fn node_line(s: &[u8], from: usize, to: usize, words: &mut [u32], names: u32, i:
     requires { FieldRoom s.now from to words.old 0 }
     ensures { NodeLine s.now from to names i result }
 {
-    let k = text::seek(s, from, to, 9);
-    let Num::Is(n) = text::number_of(s, from, k) else {
+    let k = text::seek(s, from, to, b'\t');
+    let Some(n) = text::number_of(s, from, k) else {
         return false;
     };
-    if n != i {
+    if n != i || k == to {
         return false;
     }
-    if k == to {
-        return false;
-    }
-    let Got::To(t) = node_row(s, k + 1, to, words) else {
+    let Some(t) = node_row(s, k + 1, to, words) else {
         return false;
     };
     node_fits(words, t, names, i)
 }
 
-// The lines of n nodes, from line k on.
-fn nodes(s: &[u8], from: usize, k: u32, words: &mut [u32], names: u32, n: u32) -> Reached
-    requires { Ready s.now from k words.old }
-    ensures { Nodes s.now from k names n result }
+// The lines of n nodes, from the line at from on.
+fn nodes(
+    s: &[u8],
+    from: Reached,
+    words: &mut [u32],
+    names: u32,
+    n: u32,
+) -> Result<Reached, LineAtFault>
+    requires { Ready s.now from.at from.line words.old }
+    ensures { Nodes s.now from.at from.line names n result }
 {
-    let m = s.len();
-    let mut at = from;
-    let mut line = k;
-    let mut i = 0;
-    while i < n {
-        let e = text::seek(s, at, m, 10);
-        if e == m {
-            return Reached::Fault(line);
+    let mut next = from;
+    for i in 0..n {
+        let e = line_end(s, next)?;
+        if !node_line(s, next.at, e, words, names, i) {
+            return Err(LineAtFault(next.line));
         }
-        if !node_line(s, at, e, words, names, i) {
-            return Reached::Fault(line);
-        }
-        at = e + 1;
-        line += 1;
-        i += 1;
+        next = Reached {
+            at: e + 1,
+            line: next.line + 1,
+        };
     }
-    Reached::At(at, line)
+    Ok(next)
 }
 
-fn within(a: u32, b: u32, x: u32) -> bool
-    ensures { Within a b x result }
+// Whether the row that ends at to is for the root.
+fn for_root(words: &[u32], to: usize, root: Root) -> bool
+    ensures { ForRoot words.now to root.id root.sign result }
 {
-    if a <= x {
-        return x <= b;
-    }
-    false
-}
-
-// Whether the row that ends at to is for the root of this id and sign.
-fn for_root(words: &[u32], to: usize, id: u32, sign: u32) -> bool
-    ensures { ForRoot words.now to id sign result }
-{
-    if rows::at(words, 0, to, 1) == id {
-        return rows::at(words, 0, to, 2) == sign;
-    }
-    false
+    rows::at(words, 0, to, 1) == root.id && rows::at(words, 0, to, 2) == root.sign
 }
 
 // How many nodes follow the line whose row ends at to, if that is in form for the root.
-fn count(words: &[u32], to: usize, id: u32, sign: u32) -> Num
-    ensures { Count words.now to id sign result }
+fn count(words: &[u32], to: usize, root: Root) -> Option<u32>
+    ensures { Count words.now to root.id root.sign result }
 {
     let kind = rows::at(words, 0, to, 0);
     let a = rows::at(words, 0, to, 3);
     let n = rows::at(words, 0, to, 7);
-    if !for_root(words, to, id, sign) {
-        return Num::No;
+    if !for_root(words, to, root) {
+        return None;
     }
-    if kind == 1 {
-        if !within(1, 2, a) {
-            return Num::No;
-        }
-        if !within(1, Pass::NODES, n) {
-            return Num::No;
-        }
-        return Num::Is(n);
+    match kind {
+        1 if (1..=2).contains(&a) && (1..=Pass::NODES).contains(&n) => Some(n),
+        2 if (6..=9).contains(&a) => Some(0),
+        _ => None,
     }
-    if kind == 2 {
-        if within(6, 9, a) {
-            return Num::Is(0);
-        }
-        return Num::No;
-    }
-    Num::No
 }
 
 // How many nodes follow the root's line between from and to, if that is in form.
-fn nodes_after(s: &[u8], from: usize, to: usize, words: &mut [u32], id: u32, sign: u32) -> Num
+fn nodes_after(s: &[u8], from: usize, to: usize, words: &mut [u32], root: Root) -> Option<u32>
     requires { FieldRoom s.now from to words.old 0 }
-    ensures { After s.now from to id sign result }
+    ensures { After s.now from to root.id root.sign result }
 {
-    let Got::To(t) = head_row(s, from, to, words) else {
-        return Num::No;
+    let Some(t) = head_row(s, from, to, words) else {
+        return None;
     };
-    count(words, t, id, sign)
+    count(words, t, root)
 }
 
-// The lines of a root, from line k on.
-fn root(s: &[u8], from: usize, k: u32, words: &mut [u32], names: u32, id: u32, sign: u32) -> Reached
-    requires { Ready s.now from k words.old }
-    ensures { TakesRoot s.now from k names id sign result }
+// The lines of a root, from the line at from on.
+fn root_lines(
+    s: &[u8],
+    from: Reached,
+    words: &mut [u32],
+    names: u32,
+    root: Root,
+) -> Result<Reached, LineAtFault>
+    requires { Ready s.now from.at from.line words.old }
+    ensures { TakesRoot s.now from.at from.line names root.id root.sign result }
 {
-    let m = s.len();
-    let e = text::seek(s, from, m, 10);
-    if e == m {
-        return Reached::Fault(k);
+    let e = line_end(s, from)?;
+    let n = nodes_after(s, from.at, e, words, root).ok_or(LineAtFault(from.line))?;
+    let next = Reached {
+        at: e + 1,
+        line: from.line + 1,
+    };
+    nodes(s, next, words, names, n)
+}
+
+// Root i, by its row: a kind, the id, the sign.
+fn root_at(table: &[u32], first: u32, i: u32) -> Root
+    ensures { RootAt table.now first i result }
+{
+    let row = get(table, place(first, i));
+    Root {
+        id: get(table, place(row, 1)),
+        sign: get(table, place(row, 2)),
     }
-    let Num::Is(n) = nodes_after(s, from, e, words, id, sign) else {
-        return Reached::Fault(k);
-    };
-    nodes(s, e + 1, k + 1, words, names, n)
 }
 
-// Word k of root i's row.
-fn root_word(table: &[u32], first: u32, i: u32, k: u32) -> u32
-    ensures { RootWord table.now first i k result }
-{
-    let p = get(table, place(first, i));
-    get(table, place(p, k))
-}
-
-// The lines of all roots, from line k on, and nothing after them.
+// The lines of all roots, from the line at from on, and nothing after them.
 fn roots_from(
     s: &[u8],
     spans: &mut [u32],
     table: &[u32],
     words: &mut [u32],
-    from: usize,
-    k: u32,
+    from: Reached,
     names: u32,
     first: u32,
     roots: u32,
-) -> Old
-    requires { Ready s.now from k words.old }
-    ensures { Roots s.now from k names table.now first roots spans.old spans.new result }
+) -> Result<(), LineAtFault>
+    requires { Ready s.now from.at from.line words.old }
+    ensures { Roots s.now from.at from.line names table.now first roots spans.old spans.new result }
 {
-    let mut at = from;
-    let mut line = k;
-    let mut i = 0;
-    while i < roots {
-        cells::set(spans, i, at as u32);
-        let id = root_word(table, first, i, 1);
-        let sign = root_word(table, first, i, 2);
-        match root(s, at, line, words, names, id, sign) {
-            Reached::Fault(l) => {
-                return Old::Refused(l);
-            }
-            Reached::At(q, l) => {
-                at = q;
-                line = l;
-                i += 1;
-            }
-        }
+    let mut next = from;
+    for i in 0..roots {
+        cells::set(spans, i, next.at as u32);
+        next = root_lines(s, next, words, names, root_at(table, first, i))?;
     }
-    cells::set(spans, roots, at as u32);
-    if at < s.len() {
-        return Old::Refused(line);
+    cells::set(spans, roots, next.at as u32);
+    if next.at < s.len() {
+        return Err(LineAtFault(next.line));
     }
-    Old::InForm
+    Ok(())
 }
 
 // Whether the line between from and to is `answers` with this count.
@@ -275,13 +236,10 @@ fn is_answers(s: &[u8], from: usize, to: usize, words: &mut [u32], roots: u32) -
     requires { FieldRoom s.now from to words.old 0 }
     ensures { IsAnswers s.now from to roots result }
 {
-    let Got::To(t) = head_row(s, from, to, words) else {
+    let Some(t) = head_row(s, from, to, words) else {
         return false;
     };
-    if rows::at(words, 0, t, 0) == 0 {
-        return rows::at(words, 0, t, 1) == roots;
-    }
-    false
+    rows::at(words, 0, t, 0) == 0 && rows::at(words, 0, t, 1) == roots
 }
 
 // Whether the line between from and to is `numbered`.
@@ -289,26 +247,23 @@ fn is_numbered(s: &[u8], from: usize, to: usize) -> bool
     requires { (from ≤ to) × (to ≤ length s.now) }
     ensures { IsNumbered s.now from to result }
 {
-    check::same(&s[from..to], b"numbered")
+    s[from..to] == b"numbered"[..]
 }
 
 // After the line `answers`: line 2 of a numbered listing is `numbered`.
-fn header(s: &[u8], from: usize, form: Form) -> Reached
+fn header(s: &[u8], from: usize, form: Form) -> Result<Reached, LineAtFault>
     requires { (1 ≤ from) × (from ≤ length s.now) }
     ensures { TakesHeader form s.now from result }
 {
+    let next = Reached { at: from, line: 2 };
     match form {
-        Form::Plain => Reached::At(from, 2),
+        Form::Plain => Ok(next),
         Form::Numbered => {
-            let m = s.len();
-            let e = text::seek(s, from, m, 10);
-            if e == m {
-                return Reached::Fault(2);
-            }
+            let e = line_end(s, next)?;
             if !is_numbered(s, from, e) {
-                return Reached::Fault(2);
+                return Err(LineAtFault(2));
             }
-            Reached::At(e + 1, 3)
+            Ok(Reached { at: e + 1, line: 3 })
         }
     }
 }
@@ -324,25 +279,16 @@ pub fn read_old(
     names: u32,
     first: u32,
     roots: u32,
-) -> Old
+) -> Result<(), LineAtFault>
     ensures { Read form text.now names table.now first roots spans.old words.old spans.new result }
 {
-    let n = text.len();
-    if Table::TEXT < n {
-        return Old::Refused(0);
+    if Table::TEXT < text.len() || words.len() < ArenaSlice::LINE {
+        return Err(LineAtFault(0));
     }
-    if words.len() < ArenaSlice::LINE {
-        return Old::Refused(0);
-    }
-    let e = text::seek(text, 0, n, 10);
-    if e == n {
-        return Old::Refused(1);
-    }
+    let e = line_end(text, Reached { at: 0, line: 1 })?;
     if !is_answers(text, 0, e, words, roots) {
-        return Old::Refused(1);
+        return Err(LineAtFault(1));
     }
-    match header(text, e + 1, form) {
-        Reached::Fault(k) => Old::Refused(k),
-        Reached::At(at, k) => roots_from(text, spans, table, words, at, k, names, first, roots),
-    }
+    let next = header(text, e + 1, form)?;
+    roots_from(text, spans, table, words, next, names, first, roots)
 }

@@ -1,11 +1,11 @@
 -- What every public call promises.
-use Rattle.std.specs.Prelude.{◌≡◌, Bool, true, ℕ, ◌≤◌, List, ◌++◌, length, replicate, take, drop, ltb}
+use Rattle.std.specs.Prelude.{◌≡◌, Bool, true, ℕ, ◌≤◌, List, ◌++◌, length, replicate, take, drop, ltb, Result as Outcome, Ok, Err}
 use Rattle.cells.specs.Part.{if}
 use Rattle.layout.specs.Layout.{draft_length, table_length, work_length}
 use Rattle.rules.specs.Table.{Result, accepted, refused}
 use Rattle.rules.specs.Calls.{Left}
-use Rattle.outcomes.specs.declared.Outcome.{Outcome}
-use Rattle.outcomes.specs.declared.Outcome.TheVariants.{Written, Refused}
+use Rattle.rules.specs.Refusals.{number}
+use Rattle.rules.specs.declared.Fault.{Fault}
 
 -- 20: "a lent scratch is shorter than the length docs/ states for it"; least is what is stated for the arena
 unfoldable pub is_short : ℕ → ℕ → ℕ → ℕ → ℕ → Bool
@@ -27,14 +27,14 @@ pub record Fits (out draft : List ℕ) (n : ℕ) : Type 0 where
 pub record Copies (out draft : List ℕ) (n : ℕ) (out' : List ℕ) : Type 0 where
   pub is : out' ≡ take n draft ++ drop n out
 
--- what a call comes to, as the rules have it
-abbrev pub outcome_of : Outcome → Result ℕ
-outcome_of (Written n) = accepted n
-outcome_of (Refused k l) = refused k l
+-- what a call comes to, as the rules have it: so many bytes written, or a refusal with number and line
+abbrev pub outcome_of : Outcome ℕ Fault → Result ℕ
+outcome_of (Ok n) = accepted n
+outcome_of (Err f) = refused (number f.refusal) f.line
 
 -- a call that comes to this outcome and leaves this output does what the rules say
-pub record Says (l : Left) (out' : List ℕ) (r : Outcome) : Type 0 where
-  pub outcome : outcome_of r ≡ l.outcome
+pub record Says (l : Left) (out' : List ℕ) (r : Result ℕ) : Type 0 where
+  pub outcome : r ≡ l.outcome
   pub output : out' ≡ l.output
 
 -- "scratch is zero at every return"
@@ -49,6 +49,6 @@ pub record Wiped (draft table arena work draft' table' arena' work' : List ℕ) 
   pub work_zero : Zero work work'
 
 -- a call comes to what the rules say, and leaves the output that they say, and the scratch is zero
-pub record Called (l : Left) (draft table arena work out' draft' table' arena' work' : List ℕ) (r : Outcome) : Type 0 where
+pub record Called (l : Left) (draft table arena work out' draft' table' arena' work' : List ℕ) (r : Result ℕ) : Type 0 where
   pub says : Says l out' r
   pub wiped : Wiped draft table arena work draft' table' arena' work'

@@ -3,30 +3,16 @@
 
 ghost use Rattle.outcomes.specs.Outcomes.{Short, Fits, Copies, Wiped};
 
-use cells::{wipe, wipe_bytes};
 use layout::{DraftSlice, TableSlice, WorkSlice};
-
-// So many bytes written, or a refusal with number and line.
-#[derive(Clone, Copy)]
-pub enum Outcome {
-    Written(u32),
-    Refused(u32, u32),
-}
 
 // Whether a lent length is shorter than the one stated for it; least is what is stated for the arena.
 pub fn is_short(draft: usize, table: usize, arena: usize, least: usize, work: usize) -> bool
     ensures { Short draft table arena least work result }
 {
-    if draft < DraftSlice::LENGTH {
-        return true;
-    }
-    if table < TableSlice::LENGTH {
-        return true;
-    }
-    if arena < least {
-        return true;
-    }
-    work < WorkSlice::LENGTH
+    draft < DraftSlice::LENGTH
+        || table < TableSlice::LENGTH
+        || arena < least
+        || work < WorkSlice::LENGTH
 }
 
 // The first n bytes of the draft copied to the output.
@@ -34,11 +20,7 @@ pub fn copy(out: &mut [u8], draft: &[u8], n: usize)
     requires { Fits out.old draft.now n }
     ensures { Copies out.old draft.now n out.new }
 {
-    let mut i: usize = 0;
-    while i < n {
-        out[i] = draft[i];
-        i += 1;
-    }
+    out[..n].copy_from_slice(&draft[..n]);
 }
 
 // Zero in every cell of the scratch that each call is lent.
@@ -46,8 +28,8 @@ pub fn wipe_all(draft: &mut [u8], table: &mut [u32], arena: &mut [u32], work: &m
     ensures { Wiped draft.old table.old arena.old work.old draft.new table.new
         arena.new work.new }
 {
-    wipe_bytes(draft);
-    wipe(table);
-    wipe(arena);
-    wipe(work);
+    draft.fill(0);
+    table.fill(0);
+    arena.fill(0);
+    work.fill(0);
 }

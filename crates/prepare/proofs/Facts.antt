@@ -1,7 +1,8 @@
 -- How the code prepares a table: first rows, marks, the number of `__functor`, the budget, and what a first pass is given.
 -- Assumes nothing.
 use mathlib.Core.Path.{◌≡◌, refl, sym, ap, ap₂, ◌∙◌, subst}
-use mathlib.Core.Bool.{Bool, true, false, not}
+use mathlib.Core.Bool.{Bool, true, false, not, ◌&&◌}
+use Rattle.std.specs.List.{list_all, range_with_len}
 use mathlib.Core.Logic.{⊎_elim}
 use Prim.Native.Nat.{ℕ, zero, suc, ◌+◌, ◌-◌, ◌≤◌, ◌<◌}
 use native.Mathlib.Omega.{arith}
@@ -13,10 +14,10 @@ use mathlib.Core.Option.{some}
 use lib.ListN.{length, get_or, drop, set, length-set, length-drop, get_or-eq_default}
 use lib.Seq.{get_or-set_same, get_or-set_other}
 use lib.Dec.{eqb, ltb}
-use borrow.Author.Tests.{ltb-true, ltb-false, lt-ltb, le-ltb, eqb-true, eqb-false}
+use borrow.Author.Tests.{ne_eqb, ltb-true, ltb-false, lt-ltb, le-ltb, eqb-true, eqb-false}
 use Rattle.cells.specs.Part.{run, cell, part, if, eq_list}
 use Rattle.cells.specs.Sum.{Sum}
-use Rattle.cells.proofs.Parts.{run_at, run_length, run_next, run_none, run_whole, run_get_d, run_ext, eq_list_same, eq_list_other, eq_list_longer}
+use Rattle.cells.proofs.Parts.{run_at, run_length, run_next, run_none, run_whole, run_get_d, run_ext, eq_list_longer}
 use Rattle.cells.proofs.Choices.{by_branch, by_test, if_self, if_same}
 use Rattle.layout.specs.Layout.{marks_at, preserved_at, rows_at, table_words, table_length}
 use Rattle.rules.specs.Plain.{find, any}
@@ -31,7 +32,7 @@ use Rattle.laws.proofs.Admitting.{Every}
 use Rattle.text.specs.Reads.{span}
 use Rattle.text.proofs.Spans.{span_length}
 use Rattle.table.specs.declared.Table.{Table}
-use Rattle.table.specs.declared.Answer.TheVariants.{Accepted}
+use Rattle.std.specs.Prelude.{Ok}
 use Rattle.table.specs.Rows.{Few, begin_at, row_at, table_from, rows, Read}
 use Rattle.storage.specs.declared.given.Canon.{Canon}
 use Rattle.storage.specs.Passes.{Reps, Knows}
@@ -157,10 +158,20 @@ pub drop_run : {A : Type 0} (f : ℕ → A) (a n : ℕ) → drop 1 (run f a n) �
 drop_run f a zero = refl
 drop_run f a (suc n) = run_at f (suc a) (a + 1) n (suc n - 1) (sym (add-one a)) (omega arith)
 
--- a name compared with `__functor`, byte by byte: what is left to compare says the same as the whole
-pub record Spelling (table : List ℕ) (a i : ℕ) : Type 0 where
-  pub is : a ≤ table_length
-      → eq_list (part table (a + 1 + i) (9 - i)) (part functor_name (0 + i) (9 - i)) ≡ eq_list (part table (a + 1) 9) functor_name
+pub and_if : (a b : Bool) → (a && b) ≡ if a (λ _. b) (λ _. false)
+and_if true b = refl
+and_if false b = refl
+
+-- cells of two lists compared one by one, from the i-th on
+pub cells_from : (s : List ℕ) (a : ℕ) (w : List ℕ) (b n i : ℕ)
+    → list_all (λ (k : ℕ). eqb (cell s (a + k)) (cell w (b + k))) (range_with_len i n) ≡ eq_list (part s (a + i) n) (part w (b + i) n)
+cells_from s a w b zero i = refl
+cells_from s a w b (suc n) i =
+    ap (λ (r : Bool). eqb (cell s (a + i)) (cell w (b + i)) && r)
+    (cells_from s a w b n (i + 1)
+    ∙ ap₂ {C = Bool} (λ (j k : ℕ). eq_list (part s j n) (part w k n)) (let e : a + (i + 1) ≡ suc (a + i) = omega arith in e)
+    (let e : b + (i + 1) ≡ suc (b + i) = omega arith in e))
+    ∙ and_if (eqb (cell s (a + i)) (cell w (b + i))) (eq_list (part s (suc (a + i)) n) (part w (suc (b + i)) n))
 
 -- the name in a row of ten words
 name_words : (table : List ℕ) (a e d : ℕ) → Sum a 10 d → e ≡ d → a ≤ table_length → part table (a + 1) 9 ≡ drop 1 (span table a e)
@@ -169,51 +180,23 @@ name_words table a e d s h low =
     run_at (cell table) (a + 1) (a + 1) 9 ((e - a) - 1) refl (omega arith) ∙ sym (drop_run (cell table) a (e - a))
 
 module _ {table : List ℕ} {a : ℕ} where
-  pub functor_longer : {e d : ℕ} → Sum a 10 d → (e ≡ d → ⊥) → IsFunctor table a e false
+  pub functor_longer : {e d : ℕ} → Sum a 10 d → (e ≡ d → ⊥) → IsFunctor table a e (eqb e d)
   functor_longer {e} {d} s n = record {
     is = λ low.
         let z = s.is (omega arith) in
-        sym (eq_list_longer (drop 1 (span table a e)) functor_name
+        ne_eqb e d n ∙ sym (eq_list_longer (drop 1 (span table a e)) functor_name
         (λ (h : length (drop 1 (span table a e)) ≡ 9).
         let l = length-drop 1 (span table a e) in let m = span_length table a e in n (omega arith)));
   }
 
-  pub spelling_start : Spelling table a 0
-  spelling_start = record { is = λ _. ap (λ (l : List ℕ). eq_list l functor_name) (run_whole (cell table) (a + 1) 9) }
-
-  module _ {i b p x y : ℕ} (inv : Spelling table a i) (lt : i < 9) (s : Sum a 1 b) (here : p ≡ b + i) (word : x ≡ cell table p)
-      (byte : y ≡ cell functor_name i) where
-    spell_next : a ≤ table_length
-        → eq_list (x ∷ part table (a + 1 + (i + 1)) (9 - (i + 1))) (y ∷ part functor_name (0 + (i + 1)) (9 - (i + 1)))
-        ≡ eq_list (part table (a + 1) 9) functor_name
-    spell_next low =
-        let z = s.is (omega arith) in
-        let at : p ≡ a + 1 + i = omega arith in let byte_at : i ≡ 0 + i = omega arith in
-        ap₂ {C = Bool} (λ (u v : ℕ). eq_list (u ∷ part table (a + 1 + (i + 1)) (9 - (i + 1)))
-        (v ∷ part functor_name (0 + (i + 1)) (9 - (i + 1))))
-        (word ∙ ap (cell table) at) (byte ∙ ap (cell functor_name) byte_at)
-        ∙ ap₂ {C = Bool} eq_list (sym (run_next (cell table) (a + 1) 9 i lt)) (sym (run_next (cell functor_name) 0 9 i lt))
-        ∙ inv.is low
-
-    pub spelling_more : x ≡ y → Spelling table a (i + 1)
-    spelling_more e = record {
-      is = λ low. sym (eq_list_same x y (part table (a + 1 + (i + 1)) (9 - (i + 1)))
-          (part functor_name (0 + (i + 1)) (9 - (i + 1))) e) ∙ spell_next low;
-    }
-
-    pub spelling_other : {e d : ℕ} → (x ≡ y → ⊥) → Sum a 10 d → e ≡ d → IsFunctor table a e false
-    spelling_other {e} {d} n t h = record {
-      is = λ low.
-          sym (eq_list_other x y (part table (a + 1 + (i + 1)) (9 - (i + 1))) (part functor_name (0 + (i + 1)) (9 - (i + 1))) n)
-          ∙ spell_next low
-          ∙ ap (λ (l : List ℕ). eq_list l functor_name) (name_words table a e d t h low);
-    }
-
-  pub spelling_done : {i e d : ℕ} → Spelling table a i → 9 ≤ i → Sum a 10 d → e ≡ d → IsFunctor table a e true
-  spelling_done {i} {e} {d} inv le t h = record {
+  pub spelled : {b e d : ℕ} {r : Bool} → Sum a 1 b → Sum a 10 d → e ≡ d
+      → r ≡ list_all (λ (k : ℕ). eqb (cell table (b + k)) (cell functor_name k)) (range_with_len 0 9) → IsFunctor table a e r
+  spelled {b} {e} {d} s t h r = record {
     is = λ low.
-        ap₂ {C = Bool} eq_list (sym (run_none (cell table) (a + 1) 9 i le)) (sym (run_none (cell functor_name) 0 9 i le))
-        ∙ inv.is low
+        let z = s.is (omega arith) in
+        r
+        ∙ cells_from table b functor_name 0 9 0
+        ∙ ap (λ (j : ℕ). eq_list (part table j 9) functor_name) (let y : b + 0 ≡ a + 1 = omega arith in y)
         ∙ ap (λ (l : List ℕ). eq_list l functor_name) (name_words table a e d t h low);
   }
 
@@ -353,7 +336,7 @@ rep_turn false table n id e =
     get_or-eq_default (part table 0 n) id (let l = run_length (cell table) 0 n in let f = ltb-false id n e in omega arith)
 
 -- the pairs, the marks and the roots of a table that was read, as the code reads them, and that pairs and marks lie after the facts
-module _ (text table : List ℕ) (t : Table) (T : rules.Table) (rd : Read text table (Accepted t)) (e : table_of text ≡ accepted T) where
+module _ (text table : List ℕ) (t : Table) (T : rules.Table) (rd : Read text table (Ok t)) (e : table_of text ≡ accepted T) where
   table_is : T ≡ from_sections (table_from t table)
   table_is = same_table text table t T rd e
 
@@ -419,14 +402,14 @@ module _ (text table : List ℕ) (t : Table) (T : rules.Table) (rd : Read text t
 
 -- a table that was read, and the slice with the facts that were made of it
 module _ (text table₀ table₁ table₂ : List ℕ) (t : Table) (T : rules.Table) (c : Canon)
-    (rd₀ : Read text table₀ (Accepted t)) (e : table_of text ≡ accepted T) (count : c.count ≡ t.entries)
+    (rd₀ : Read text table₀ (Ok t)) (e : table_of text ≡ accepted T) (count : c.count ≡ t.entries)
     (rep : Represents table₀ t.entries (rows_at + 1 + t.names + t.entries) t.pairs table₁)
     (same : length table₁ ≡ length table₀) (sets : SetsMarks table₁ t table₂)
     (long : table_length ≤ length table₀) (zeros : (k : ℕ) → k < rows_at → cell table₀ k ≡ 0) where
   few_entries : t.entries ≤ most_entries
   few_entries = rd₀.laid.few.entries
 
-  rd₁ : Read text table₁ (Accepted t)
+  rd₁ : Read text table₁ (Ok t)
   rd₁ = read_kept rd₀ (record { is = λ k le. rep.kept k (let f = few_entries in omega arith) })
 
   -- the ids that are marked
@@ -440,7 +423,7 @@ module _ (text table₀ table₁ table₂ : List ℕ) (t : Table) (T : rules.Tab
   beside : (k : ℕ) → ((m : ℕ) → m < t.entries → k ≡ marks_at + m → ⊥) → cell table₂ k ≡ cell table₁ k
   beside k h = ap (λ (l : List ℕ). cell l k) set_all ∙ marks_other t.entries ids table₁ k h
 
-  prepared_read : Read text table₂ (Accepted t)
+  prepared_read : Read text table₂ (Ok t)
   prepared_read = let f = few_entries in read_kept rd₁ (record { is = λ k le. beside k (λ m lt z. omega arith) })
 
   entries_many : length T.entries ≡ c.count
@@ -536,7 +519,7 @@ prepare_is {table₀} {table₁} {table₂} {t} {g} {pair} {pairs} {names} entri
           let reps₂ = subst (λ (x : ℕ). Represents table₀ t.entries x pairs table₁) (first.is few) reps₁ in
           let reps₃ =
           subst (λ (x : ℕ). Represents table₀ t.entries (rows_at + 1 + t.names + t.entries) x table₁) many-pairs reps₂ in
-          let read : Read text table₂ (Accepted t) = prepared_read text table₀ table₁ table₂ t T g.canon rd e count reps₃ same sets long zeros in
+          let read : Read text table₂ (Ok t) = prepared_read text table₀ table₁ table₂ t T g.canon rd e count reps₃ same sets long zeros in
           let many-roots : g.roots ≡ t.roots = rooted.is (omega arith) in
           let listed : T.roots ≡ roots_in table₂ g.first g.roots =
           roots_are text table₂ t T read e ∙ run_at _ _ g.first t.roots g.roots (sym (root.is few)) (sym many-roots) in

@@ -17,7 +17,7 @@ use Rattle.laws.proofs.ReadLines.{rest_words, row_words}
 use Rattle.text.specs.Reads.{span}
 use Rattle.text.proofs.Spans.{span_length}
 use Rattle.table.specs.declared.Table.{Table}
-use Rattle.table.specs.declared.Answer.TheVariants.{Accepted}
+use Rattle.std.specs.Prelude.{Ok}
 use Rattle.table.specs.Rows.{begin_at, row_at, bare, table_from, rows, Read}
 use Rattle.table.proofs.Growing.{built}
 use Rattle.storage.specs.declared.given.Canon.{Canon}
@@ -66,7 +66,7 @@ entry_at w row a b e low high s =
     record { kind = holds_head h; fits = omega arith; rest = rest_at (entry_of row) (holds_tail h) (omega arith) }
 
 -- what was read stands in a slice whose facts alone differ
-module _ {text w w' : List ℕ} {t : Table} (r : Read text w (Accepted t)) (h : Alike rows_at w w') where
+module _ {text w w' : List ℕ} {t : Table} (r : Read text w (Ok t)) (h : Alike rows_at w w') where
   begin_kept : (i : ℕ) → begin_at w' i ≡ begin_at w i
   begin_kept i = h.is (rows_at + i) (omega arith)
 
@@ -88,7 +88,7 @@ module _ {text w w' : List ℕ} {t : Table} (r : Read text w (Accepted t)) (h : 
       (ap bare (rows_kept (1 + t.names + t.entries + t.pairs) t.marks (omega arith)))
       (ap bare (rows_kept (1 + t.names + t.entries + t.pairs + t.marks) t.roots (omega arith)))
 
-  pub read_kept : Read text w' (Accepted t)
+  pub read_kept : Read text w' (Ok t)
   read_kept = record {
     is = ap (λ (u : rules.Sections). accepted u) table_kept ∙ r.is;
     laid = record {
@@ -99,7 +99,7 @@ module _ {text w w' : List ℕ} {t : Table} (r : Read text w (Accepted t)) (h : 
     };
   }
 
-module _ (text w : List ℕ) (t : Table) (T : rules.Table) (r : Read text w (Accepted t)) (e : table_of text ≡ accepted T) where
+module _ (text w : List ℕ) (t : Table) (T : rules.Table) (r : Read text w (Ok t)) (e : table_of text ≡ accepted T) where
   pub same_table : T ≡ from_sections (table_from t w)
   unfolding table_of
   same_table =

@@ -9,7 +9,7 @@ use Rattle.rules.specs.Canonicalizer.{reader_of, functor_number, first_pass}
 use Rattle.laws.specs.Sound.{Tabled}
 use Rattle.text.specs.Reads.{span}
 use Rattle.table.specs.declared.Table.{Table}
-use Rattle.table.specs.declared.Answer.TheVariants.{Accepted}
+use Rattle.std.specs.Prelude.{Ok}
 use Rattle.table.specs.Rows.{Few, begin_at, row_at, Read}
 use Rattle.storage.specs.Passes.{Knows}
 use Rattle.storage.specs.Equivs.{Behind}
@@ -77,7 +77,7 @@ roots_in table first n = run (root_at table) first n
 
 -- what a table that was read is prepared as: what was read stands there still, with the facts and the pass that its runs rely on
 pub record IsPrepared (text : List ℕ) (t : Table) (T : rules.Table) (table : List ℕ) (g : Prepared) : Type 0 where
-  pub read : Read text table (Accepted t)
+  pub read : Read text table (Ok t)
   pub knows : Knows table g.canon (first_pass T) (reader_of T)
   pub tabled : Tabled (first_pass T) (reader_of T)
   pub none : (v : ℕ) → v < g.canon.count → cell table (preserved_at + v) ≡ 0
@@ -88,5 +88,5 @@ pub record IsPrepared (text : List ℕ) (t : Table) (T : rules.Table) (table : L
   pub known : (i : ℕ) → i < g.roots → cell table (cell table (g.first + i) + 1) < g.canon.count
 
 pub record Prepares (table : List ℕ) (t : Table) (table' : List ℕ) (r : Prepared) : Type 0 where
-  pub is : (text : List ℕ) (T : rules.Table) → Read text table (Accepted t) → table_of text ≡ accepted T → table_length ≤ length table
+  pub is : (text : List ℕ) (T : rules.Table) → Read text table (Ok t) → table_of text ≡ accepted T → table_length ≤ length table
       → ((k : ℕ) → k < rows_at → cell table k ≡ 0) → IsPrepared text t T table' r

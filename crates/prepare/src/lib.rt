@@ -21,7 +21,7 @@ pub struct Prepared {
 pub fn number(n: usize) -> u32
     ensures { Number n result }
 {
-    if n < 4294967295 { n as u32 } else { 4294967295 }
+    u32::try_from(n).unwrap_or(u32::MAX)
 }
 
 // The places where the beginnings of the first entry, the first pair, the first mark and the first root stand.
@@ -64,12 +64,10 @@ fn set_marks(table: &mut [u32], t: Table)
     let first = first_mark(t);
     let entries = number(t.entries);
     let n = number(t.marks);
-    let mut i = 0;
-    while i < n {
+    for i in 0..n {
         let row = get(table, place(first, i));
         let id = get(table, place(row, 1));
         set_mark(table, entries, id);
-        i += 1;
     }
 }
 
@@ -78,31 +76,20 @@ fn is_functor(table: &[u32], a: u32, e: u32) -> bool
     ensures { IsFunctor table.now a e result }
 {
     let name = [95u32, 95, 102, 117, 110, 99, 116, 111, 114];
-    if e != add(a, 10) {
-        return false;
-    }
-    let mut i = 0;
-    while i < 9 {
-        if get(table, place(add(a, 1), i)) != at(&name, i) {
-            return false;
-        }
-        i += 1;
-    }
-    true
+    let from = add(a, 1);
+    e == add(a, 10) && (0..9).all(|i| get(table, place(from, i)) == at(&name, i))
 }
 
 // The number of the name `__functor`; the number of names where it is none of them.
 fn functor(table: &[u32], names: u32) -> u32
     ensures { Functor table.now names result }
 {
-    let mut i = 0;
-    while i < names {
+    for i in 0..names {
         let a = get(table, place(TableSlice::ROWS + 1, i));
         let e = get(table, place(TableSlice::ROWS + 2, i));
         if is_functor(table, a, e) {
             return i;
         }
-        i += 1;
     }
     names
 }

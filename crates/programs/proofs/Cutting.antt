@@ -6,20 +6,20 @@ use native.Mathlib.Omega.{arith}
 use mathlib.Core.List.{List, [], ◌∷◌, ◌++◌, append-nil, append_assoc}
 use lib.ListN.{length, take, drop, length-take, length-drop}
 use lib.Seq.{slice, slice_empty, take_all, take-nil, take-suc, drop-cons, drop-append-le, drop-drop, drop-length, length-take-le, append_snoc}
-use lib.Dec.{eqb, leb}
-use borrow.Author.Tests.{ne_eqb, eqb-true, eqb-false, le-leb, lt-leb, leb-false, lt-ltb, le-ltb}
+use lib.Dec.{eqb}
+use borrow.Author.Tests.{ne_eqb, eqb-true, eqb-false, le-leb, lt-leb, lt-ltb, le-ltb}
 use Rattle.cells.specs.Part.{if, cell, eq_list}
-use Rattle.cells.proofs.Parts.{eq_list_same, eq_list_other, eq_list_longer}
+use Rattle.cells.proofs.Parts.{eq_list_same, eq_list_other}
 use Rattle.cells.proofs.Choices.{by_test}
 use Rattle.rules.specs.Plain.{ascii, both}
 use Rattle.rules.specs.Text.{line_feed, cut, pieces, parted}
 use Rattle.rules.specs.Calls.{Split, cut_next, split_next}
-use Rattle.laws.proofs.Storing.{eq_list_true, eq_list_told}
+use Rattle.laws.proofs.Storing.{eq_list_true}
 use Rattle.laws.proofs.Admitting.{both_parts}
 use Rattle.laws.proofs.Rooting.{all_join}
 use Rattle.laws.proofs.Printed.{Free}
 use Rattle.laws.proofs.OldListing.{parted_pieces}
-use Rattle.programs.specs.Parts.{Begins, next_line, line_at, IsNext, behind_of, Behind, UntilNext}
+use Rattle.programs.specs.Parts.{next_line, line_at, IsNext, behind_of, UntilNext}
 
 -- parts of a list
 pub drop_take : (j k : ℕ) (l : List ℕ) → drop j (take (j + k) l) ≡ take k (drop j l)
@@ -199,39 +199,3 @@ module _ {s : List ℕ} {from i : ℕ} (k : Seeking s from i) where
             ∙ ap (scan (line_at s from (length s)) (slice from (length s) s)) (drop-length s)
             ∙ ap (λ (l : List ℕ). record { front = slice from (length s) s; back = l }) (sym (drop-length s) ∙ ap (λ (j : ℕ). drop j s) (sym end));
       }
-
--- each way out of `begins`
-module _ {s other : List ℕ} {n : ℕ} where
-  pub begins_same : {b : Bool} → n ≤ length s → (b ≡ true → take n s ≡ other) × (take n s ≡ other → b ≡ true) → Begins s n other b
-  begins_same {b} h f = record { is = sym (rw (le-leb n (length s) h) (eq_list_told b (eq_list (take n s) other) (take n s) other f refl)) }
-
-  pub begins_short : length s < n → Begins s n other false
-  begins_short h = record { is = sym (rw (lt-leb n (length s) h)) }
-
--- each way out of `is_next`; the code has what is after a place as a part up to the end
-next_here : (s : List ℕ) (i : ℕ) {b : Bool} → Begins (take (length s - i) (drop i s)) 5 next_line b → b ≡ eq_list (take 5 (drop i s)) next_line
-next_here s i {b} g =
-    (subst (λ (l : List ℕ). Begins l 5 next_line b) (rest_whole s i) g).is
-    ∙ by_test (λ (c : Bool). c ≡ eq_list (take 5 (drop i s)) next_line) (leb 5 (length (drop i s))) _ _ (λ e. refl)
-    (λ e. sym (eq_list_longer (take 5 (drop i s)) next_line (λ z. omega (arith, leb-false 5 (length (drop i s)) e, length-take 5 (drop i s)))))
-
-module _ {s : List ℕ} {from i : ℕ} {b : Bool} (g : Begins (take (length s - i) (drop i s)) 5 next_line b) where
-  pub next_not : b ≡ false → IsNext s from i false
-  next_not e = record { is = sym (by_test (λ (c : Bool). c ≡ false) (line_at s from i) _ _ (λ _. sym (next_here s i g) ∙ e) (λ _. refl)) }
-
-  pub next_first : b ≡ true → i ≤ from → IsNext s from i true
-  next_first e le = record { is = sym (rw (le-leb i from le) (sym (next_here s i g) ∙ e)) }
-
-  pub next_behind : b ≡ true → from < i → IsNext s from i (eqb (cell s (i - 1)) line_feed)
-  next_behind e lt = record {
-    is = sym (rw (lt-leb i from lt, sym (next_here s i g) ∙ e)
-        (by_test (λ (c : Bool). c ≡ eqb (cell s (i - 1)) line_feed) (eqb (cell s (i - 1)) line_feed) _ _ (λ z. sym z) (λ z. sym z)));
-  }
-
--- each way out of `behind`
-module _ {n to : ℕ} where
-  pub behind_end : n - to < 5 → Behind n to n
-  behind_end h = record { is = sym (rw (lt-ltb (n - to) 5 h)); end = omega arith }
-
-  pub behind_next : 5 ≤ n - to → Behind n to (to + 5)
-  behind_next h = record { is = sym (rw (le-ltb (n - to) 5 h)); end = omega arith }

@@ -15,13 +15,14 @@ use Rattle.rules.specs.Calls.{leaves, unless_short, printed, lent}
 use Rattle.laws.proofs.Bounding.{refusal_bounded}
 use Rattle.listing.specs.Writes.{Wrote}
 use Rattle.listing.proofs.Texts.{over_whole}
-use Rattle.outcomes.specs.Outcomes.{is_short, Says}
-use Rattle.outcomes.specs.declared.Outcome.{Outcome}
-use Rattle.outcomes.specs.declared.Outcome.TheVariants.{Written, Refused}
+use Rattle.outcomes.specs.Outcomes.{is_short, outcome_of, Says}
+use Rattle.std.specs.Prelude.{Result as Outcome, Ok, Err}
+use Rattle.rules.specs.Refusals.{number}
+use Rattle.rules.specs.declared.Fault.{Fault}
 use Rattle.programs.specs.Shows.{Shows, ShowsOutcome}
 
 -- what was written stands at the beginning
-written_shown : (found : List ℕ) (x : Result (List ℕ)) {out : List ℕ} {n : ℕ} → Says (leaves found x) out (Written n) → Shows (printed x) out n
+written_shown : (found : List ℕ) (x : Result (List ℕ)) {out : List ℕ} {n : ℕ} → Says (leaves found x) out (accepted n) → Shows (printed x) out n
 written_shown found (accepted text) {out} {n} s =
     let e = s.outcome in
     let size : n ≡ length text = cc in
@@ -42,7 +43,7 @@ line_shown t {out} {out'} {r} w few room =
           ∙ take-append_seam t (drop (length t) out);
     }
 
-refused_shown : (found : List ℕ) (x : Result (List ℕ)) {out : List ℕ} {k l : ℕ} → Says (leaves found x) out (Refused k l) → printed x ≡ refusal_line k l
+refused_shown : (found : List ℕ) (x : Result (List ℕ)) {out : List ℕ} {k l : ℕ} → Says (leaves found x) out (refused k l) → printed x ≡ refusal_line k l
 refused_shown found (accepted text) s = let e = s.outcome in absurd (let z : ◌≡◌ {A = ℕ} 0 1 = cc in omega arith)
 refused_shown found (refused m n) {k = k} {l = l} s =
     let e = s.outcome in
@@ -50,21 +51,21 @@ refused_shown found (refused m n) {k = k} {l = l} s =
     sym (ap₂ {C = List ℕ} refusal_line p q)
 
 -- each way out of `shown`
-module _ {outcome : Outcome} {out : List ℕ} where
-  pub shows_written : {n : ℕ} → outcome ≡ Written n → ShowsOutcome outcome out out n
-  shows_written {n} e = subst (λ (o : Outcome). ShowsOutcome o out out n) (sym e) (record { is = λ found x s room. written_shown found x s })
+module _ {outcome : Outcome ℕ Fault} {out : List ℕ} where
+  pub shows_written : {n : ℕ} → outcome ≡ Ok n → ShowsOutcome (outcome_of outcome) out out n
+  shows_written e = rw e (record { is = λ found x s room. written_shown found x s })
 
-  pub shows_refused : {out' : List ℕ} {k l r : ℕ} → outcome ≡ Refused k l → k ≤ 4294967295 → l ≤ 4294967295 → Wrote (refusal_line k l) 0 out out' r
-      → ShowsOutcome outcome out out' r
-  shows_refused {out'} {k} {l} {r} e hk hl w =
-      subst (λ (o : Outcome). ShowsOutcome o out out' r) (sym e)
+  pub shows_refused : {out' : List ℕ} {f : Fault} {k r : ℕ} → outcome ≡ Err f → k ≡ number f.refusal → k ≤ 4294967295 → f.line ≤ 4294967295
+      → Wrote (refusal_line k f.line) 0 out out' r → ShowsOutcome (outcome_of outcome) out out' r
+  shows_refused {out'} {f} {k} {r} e n hk hl w =
+      rw (e, ← n)
       (record {
         is = λ found x s room.
-            subst (λ (t : List ℕ). Shows t out' r) (sym (refused_shown found x s)) (line_shown (refusal_line k l) w (refusal_bounded hk hl) room);
+            subst (λ (t : List ℕ). Shows t out' r) (sym (refused_shown found x s)) (line_shown (refusal_line k f.line) w (refusal_bounded hk hl) room);
       })
 
 -- a call with all scratch lent in full
-pub call_shown : (out : List ℕ) (x : Result (List ℕ)) (short : Bool) {out₁ out' : List ℕ} {outcome : Outcome} {r : ℕ} → short ≡ false
+pub call_shown : (out : List ℕ) (x : Result (List ℕ)) (short : Bool) {out₁ out' : List ℕ} {outcome : Result ℕ} {r : ℕ} → short ≡ false
     → Says (leaves out (unless_short short x)) out₁ outcome → lent ≤ length out₁ → ShowsOutcome outcome out₁ out' r → Shows (printed x) out' r
 call_shown out x short {out₁} {outcome = outcome} e s room w =
     w.is out x (subst (λ (b : Bool). Says (leaves out (unless_short b x)) out₁ outcome) e s) room

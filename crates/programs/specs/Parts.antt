@@ -7,10 +7,6 @@ use Rattle.rules.specs.Text.{line_feed}
 use Rattle.rules.specs.Calls.{split_next}
 use Rattle.programs.specs.declared.Part.{Part}
 
--- the first n bytes are these
-pub record Begins (s : List ℕ) (n : ℕ) (other : List ℕ) (r : Bool) : Type 0 where
-  pub is : r ≡ both (leb n (length s)) (λ _. eq_list (take n s) other)
-
 -- the line that parts, with its line feed
 abbrev pub next_line : List ℕ
 next_line = ascii "next" ++ (line_feed ∷ [])

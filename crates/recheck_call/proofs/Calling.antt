@@ -20,15 +20,15 @@ use Rattle.rules.specs.Listing.{old_listing}
 use Rattle.rules.specs.Calls.{fits, comparable, recheck_text, recheck, leaves, unless_short, recheck_call}
 use Rattle.text.specs.Reads.{span, span_at}
 use Rattle.table.specs.declared.Table.{Table}
-use Rattle.table.specs.declared.Answer.{Answer}
-use Rattle.table.specs.declared.Answer.TheVariants.{Accepted, Refused as TableRefused}
+use Rattle.rules.specs.declared.Fault.{Fault}
+use Rattle.rules.specs.Refusals.{number}
 use Rattle.table.specs.Rows.{row_at, table_from, Read, ReadInto}
 use Rattle.prepare.specs.declared.Prepared.{Prepared}
 use Rattle.prepare.specs.Prepares.{Number, FirstRoot, root_at, IsPrepared, Prepares}
 use Rattle.prepare.proofs.Prepares.{same_table, many, read_kept}
 use Rattle.prepare.proofs.Facts.{roots_are}
-use Rattle.old_listing.specs.declared.Old.{Old}
-use Rattle.old_listing.specs.declared.Old.TheVariants.{InForm, Refused as OldRefused}
+use Rattle.std.specs.Prelude.{Result as Ended, Ok, Err}
+use Rattle.old_listing.specs.declared.LineAtFault.{LineAtFault}
 use Rattle.old_listing.specs.Olds.{RootsAt, asked, old_of, Lies}
 use Rattle.old_listing.specs.Olds.{Read as ReadOld}
 use Rattle.compare.specs.Compares.{Comparable}
@@ -41,8 +41,6 @@ use Rattle.rules.specs.declared.Form.{Form}
 use Rattle.answers.specs.Runs.{Fresh}
 use Rattle.answers.specs.Mixes.{OldLines, Noted}
 use Rattle.answers.specs.Asks.{Delivers}
-use Rattle.outcomes.specs.declared.Outcome.{Outcome}
-use Rattle.outcomes.specs.declared.Outcome.TheVariants.{Refused}
 use Rattle.answers.specs.declared.asked.Asked.TheVariants.{Mixed}
 use Rattle.outcomes.proofs.Promises.{long_enough, says_as, refused_as, called}
 use Rattle.answers.proofs.Delivered.{refused_read, accepted_read}
@@ -56,12 +54,12 @@ unfolding first_pass
 counted {text} {table} {t} {T} e q = sym q.knows.count ∙ many text table t T q.read e
 
 -- two tables with as many lines of each kind, and the old lines of the roots
-pub record Flagged (form : Form) (listing out old table : List ℕ) (t : Table) (arena work out' : List ℕ) (r : Outcome) : Type 0 where
+pub record Flagged (form : Form) (listing out old table : List ℕ) (t : Table) (arena work out' : List ℕ) (r : Result ℕ) : Type 0 where
   pub is : {T₁ T₂ : rules.Table} {texts : List (List ℕ)} → Before T₁ t old → Fresh T₂ t table arena work → OldLines listing texts old t.roots
       → Says (leaves out (fits (length out) (recheck_text form T₁ T₂ texts))) out' r
 
 -- prepared, flagged, and brought to the output
-pub flagged : {form : Form} {listing out old table arena work table₁ old₁ work₁ out' : List ℕ} {t : Table} {g : Prepared} {r : Outcome}
+pub flagged : {form : Form} {listing out old table arena work table₁ old₁ work₁ out' : List ℕ} {t : Table} {g : Prepared} {r : Result ℕ}
     → Prepares table t table₁ g → length table₁ ≡ length table → FlagsRedone old table₁ work g.canon g.first g.roots old₁
     → length work₁ ≡ length work → Delivers listing out old₁ table₁ g arena work₁ (Mixed form) out' r → Flagged form listing out old table t arena work out' r
 flagged {form} {listing} {out} {old} {table} {arena} {work} {table₁} {old₁} {work₁} {out'} {t} {g} {r} p l h lw s = record {
@@ -112,12 +110,12 @@ unfolding old_listing
 listing_short form names rs s texts e = ltb-false most_text (length s) (short_turn (ltb most_text (length s)) _ texts e)
 
 -- the names and the roots of a table that was read
-names_many : (text w : List ℕ) (t : Table) (T : rules.Table) → Read text w (Accepted t) → table_of text ≡ accepted T → length T.names ≡ t.names
+names_many : (text w : List ℕ) (t : Table) (T : rules.Table) → Read text w (Ok t) → table_of text ≡ accepted T → length T.names ≡ t.names
 unfolding table_from
 names_many text w t T r e =
     ap (λ (u : rules.Table). length u.names) (same_table text w t T r e) ∙ length-map (run (row_at w) 1 t.names) _ ∙ run_length (row_at w) 1 t.names
 
-roots_at : (text w : List ℕ) (t : Table) (T : rules.Table) {first n : ℕ} → Read text w (Accepted t) → table_of text ≡ accepted T → FirstRoot t first
+roots_at : (text w : List ℕ) (t : Table) (T : rules.Table) {first n : ℕ} → Read text w (Ok t) → table_of text ≡ accepted T → FirstRoot t first
     → n ≡ t.roots → RootsAt T.roots w first n
 roots_at text w t T {first} {n} r e f c =
     let from = rows_at + 1 + t.names + t.entries + t.pairs + t.marks in
@@ -142,35 +140,35 @@ few_lines : {T : rules.Table} {t : Table} {table arena work : List ℕ} {n : ℕ
 few_lines {t = t} f h = let few : t.roots ≤ most_roots = f.read.laid.few.roots in omega (arith, roots_counted f h)
 
 -- what was read of the old listing is what the rules say
-old_is : {form : Form} {listing old table arena work old₁ : List ℕ} {T : rules.Table} {t : Table} {names first n : ℕ} {a : Old} → Fresh T t table arena work
+old_is : {form : Form} {listing old table arena work old₁ : List ℕ} {T : rules.Table} {t : Table} {names first n : ℕ} {a : Ended (Unit {0}) LineAtFault} → Fresh T t table arena work
     → Number t.names names → FirstRoot t first → Number t.roots n → ReadOld form listing names table first n old arena old₁ a
-    → table_length ≤ length old → line_length ≤ length arena → (z : Old) → a ≡ z → old_of z listing old₁ n ≡ old_listing form (length T.names) T.roots listing
+    → table_length ≤ length old → line_length ≤ length arena → (z : Ended (Unit {0}) LineAtFault) → a ≡ z → old_of z listing old₁ n ≡ old_listing form (length T.names) T.roots listing
 old_is {form} {listing} {old} {table} {arena} {work} {old₁} {T} {t} {names} {first} {n} {a} f names-is first_is n-is q long line z e =
     let low = few_lines f n-is in
     let few : t.names ≤ most_names = f.read.laid.few.names in
     let same : names ≡ length T.names = names-is.is (omega arith) ∙ sym (names_many f.text table t T f.read f.is) in
-    ap (λ (x : Old). old_of x listing old₁ n) (sym e)
+    ap (λ (x : Ended (Unit {0}) LineAtFault). old_of x listing old₁ n) (sym e)
     ∙ q.is T.roots (roots_at f.text table t T f.read f.is first_is (roots_counted f n-is)) (omega arith) line
     ∙ ap (λ (k : ℕ). old_listing form k T.roots listing) same
 
 -- each way out of `compare_both`
 module _ {form : Form} {listing out old table arena work : List ℕ} {u t : Table} {b : Bool} (h : Comparable old u table t b) where
-  pub not_comparable : not b ≡ true → ComparesBoth form listing out old u table t arena work out (Refused 10 0)
+  pub not_comparable : not b ≡ true → ComparesBoth form listing out old u table t arena work out (refused 10 0)
   not_comparable e = record {
     is = λ {T₁} {T₂} o f l. refused_as out (apart_of form T₁ T₂ listing (length out) (compared h T₁ T₂ o f (not-true b e)));
   }
 
   module _ (yes : not b ≡ false) {names first n : ℕ} (names-is : Number t.names names) (first_is : FirstRoot t first) (n-is : Number t.roots n)
-      {old₁ : List ℕ} {a : Old} (q : ReadOld form listing names table first n old arena old₁ a) where
-    pub refused_old : {k : ℕ} → a ≡ OldRefused k → ComparesBoth form listing out old u table t arena work out (Refused 11 k)
-    refused_old {k} e = record {
+      {old₁ : List ℕ} {a : Ended (Unit {0}) LineAtFault} (q : ReadOld form listing names table first n old arena old₁ a) where
+    pub refused_old : {g : LineAtFault} {k : ℕ} → g.0 ≡ k → a ≡ Err g → ComparesBoth form listing out old u table t arena work out (refused 11 k)
+    refused_old {g} {k} d e = record {
       is = λ {T₁} {T₂} o f l.
           refused_as out
           (alike_of form T₁ T₂ listing (length out) (compared h T₁ T₂ o f (not-false b yes)) (refused 11 k)
-          (old_is f names-is first_is n-is q o.long l (OldRefused k) e));
+          (ap (λ (m : ℕ). refused 11 m) (sym d) ∙ old_is f names-is first_is n-is q o.long l (Err g) e));
     }
 
-    pub listed_both : {arena₁ out' : List ℕ} {r : Outcome} → a ≡ InForm → length old₁ ≡ length old → length arena₁ ≡ length arena
+    pub listed_both : {arena₁ out' : List ℕ} {r : Result ℕ} → a ≡ Ok tt → length old₁ ≡ length old → length arena₁ ≡ length arena
         → Flagged form listing out old₁ table t arena₁ work out' r → ComparesBoth form listing out old u table t arena work out' r
     listed_both {arena₁} {out'} {r} e lo la s = record {
       is = λ {T₁} {T₂} o f l.
@@ -182,7 +180,7 @@ module _ {form : Form} {listing out old table arena work : List ℕ} {u t : Tabl
           record {
             text = o.text;
             is = o.is;
-            read = read_kept (subst (λ (v : Table). Read o.text old (Accepted v)) counts o.read) (record { is = λ k le. q.kept k (omega arith) });
+            read = read_kept (subst (λ (v : Table). Read o.text old (Ok v)) counts o.read) (record { is = λ k le. q.kept k (omega arith) });
             long = omega (arith, o.long);
           } in
           let fresh : Fresh T₂ t table arena₁ work =
@@ -194,9 +192,9 @@ module _ {form : Form} {listing out old table arena work : List ℕ} {u t : Tabl
             lent = record { table = f.lent.table; arena = omega (arith, f.lent.arena); work = f.lent.work };
           } in
           let inside : (k : ℕ) → k ≤ n → cell old₁ k ≤ length listing =
-          subst (λ (x : Old). Lies x listing old₁ n) e (q.lies (omega (arith, o.long))) in
+          subst (λ (x : Ended (Unit {0}) LineAtFault). Lies x listing old₁ n) e (q.lies (omega (arith, o.long))) in
           let texts = run (span_at listing old₁) 0 n in
-          let known = old_is f names-is first_is n-is q o.long l InForm e in
+          let known = old_is f names-is first_is n-is q o.long l (Ok tt) e in
           let lines : OldLines listing texts old₁ t.roots =
           record {
             are = ap (run (span_at listing old₁) 0) (sym same);
@@ -207,24 +205,24 @@ module _ {form : Form} {listing out old table arena work : List ℕ} {u t : Tabl
     }
 
 -- a new table, where the old one was accepted
-pub record ReadsNew (form : Form) (newText listing out old : List ℕ) (u : Table) (table arena work out' : List ℕ) (r : Outcome) : Type 0 where
+pub record ReadsNew (form : Form) (newText listing out old : List ℕ) (u : Table) (table arena work out' : List ℕ) (r : Result ℕ) : Type 0 where
   pub is : {T₁ : rules.Table} → Before T₁ u old → LentTo table arena work → line_length ≤ length arena
       → Says (leaves out (then (table_of newText) (λ (T₂ : rules.Table). recheck_of form T₁ T₂ listing (length out)))) out' r
 
 -- what was read of it after facts that were cleared
-module _ {form : Form} {newText listing out old table arena work table₁ table₂ : List ℕ} {u : Table} {a : Answer} (q : ReadInto newText table₁ table₂ a) where
-  pub refused_new : {k l : ℕ} → a ≡ TableRefused k l → ReadsNew form newText listing out old u table arena work out (Refused k l)
-  refused_new {k} {l} e = record {
+module _ {form : Form} {newText listing out old table arena work table₁ table₂ : List ℕ} {u : Table} where
+  pub refused_new : {f : Fault} → ReadInto newText table₁ table₂ (Err f) → ReadsNew form newText listing out old u table arena work out (refused (number f.refusal) f.line)
+  refused_new q = record {
     is = λ {T₁} o lent m.
-        refused_as out (ap (λ (x : Result rules.Table). then x (λ (T₂ : rules.Table). recheck_of form T₁ T₂ listing (length out))) (refused_read q e));
+        refused_as out (ap (λ (x : Result rules.Table). then x (λ (T₂ : rules.Table). recheck_of form T₁ T₂ listing (length out))) (refused_read q refl));
   }
 
-  pub compared_new : {t : Table} {out' : List ℕ} {r : Outcome} → a ≡ Accepted t → Clears table 0 rows_at table₁ → length table₁ ≡ length table
-      → ComparesBoth form listing out old u table₂ t arena work out' r → ReadsNew form newText listing out old u table arena work out' r
-  compared_new {t} e c l s = record {
+  pub compared_new : {t : Table} {out' : List ℕ} {r : Result ℕ} → ReadInto newText table₁ table₂ (Ok t) → Clears table 0 rows_at table₁
+      → length table₁ ≡ length table → ComparesBoth form listing out old u table₂ t arena work out' r → ReadsNew form newText listing out old u table arena work out' r
+  compared_new q c l s = record {
     is = λ {T₁} o lent m.
-        says_as out (ap (λ (x : Result rules.Table). then x (λ (T₂ : rules.Table). recheck_of form T₁ T₂ listing (length out))) (accepted_read q e))
-        (s.is o (fresh_read c l q e lent) m);
+        says_as out (ap (λ (x : Result rules.Table). then x (λ (T₂ : rules.Table). recheck_of form T₁ T₂ listing (length out))) (accepted_read q refl))
+        (s.is o (fresh_read c l q refl lent) m);
   }
 
 -- what the old table's text says
@@ -241,7 +239,7 @@ tested draft old table arena work room h e = rw (le-ltb (length old) table_lengt
 
 -- each way out of `answer`; b is what the second test said
 module _ {form : Form} {oldText newText listing out draft old table arena work : List ℕ} where
-  answer_by : {out' : List ℕ} {r : Outcome} (c : Bool) → recheck_short draft old table arena work ≡ c
+  answer_by : {out' : List ℕ} {r : Result ℕ} (c : Bool) → recheck_short draft old table arena work ≡ c
       → Says (leaves out (unless_short c (recheck form oldText newText listing (length out)))) out' r
       → Answers form oldText newText listing out draft old table arena work out' r
   unfolding recheck_call
@@ -249,32 +247,34 @@ module _ {form : Form} {oldText newText listing out draft old table arena work :
     is = subst (λ (x : Bool). Says (leaves out (unless_short x (recheck form oldText newText listing (length out)))) out' r) (sym e) s;
   }
 
-  pub short_old : length old < table_length → Answers form oldText newText listing out draft old table arena work out (Refused 20 0)
+  pub short_old : length old < table_length → Answers form oldText newText listing out draft old table arena work out (refused 20 0)
   short_old h = answer_by true (simp (lt-ltb (length old) table_length h)) (record { outcome = refl; output = refl })
 
-  module _ (room : table_length ≤ length old) {b : Bool} (h : Short (length draft) (length table) (length arena) line_length (length work) b) where
-    pub short_answer : b ≡ true → Answers form oldText newText listing out draft old table arena work out (Refused 20 0)
-    short_answer e = answer_by true (tested draft old table arena work room h e) (record { outcome = refl; output = refl })
+  pub short_answer : {b : Bool} → table_length ≤ length old → Short (length draft) (length table) (length arena) line_length (length work) b → b ≡ true
+      → Answers form oldText newText listing out draft old table arena work out (refused 20 0)
+  short_answer room h e = answer_by true (tested draft old table arena work room h e) (record { outcome = refl; output = refl })
 
-    module _ (long : b ≡ false) {old₁ : List ℕ} {a : Answer} (q : ReadInto oldText old old₁ a) where
-      pub refused_answer : {k l : ℕ} → a ≡ TableRefused k l → Answers form oldText newText listing out draft old table arena work out (Refused k l)
-      refused_answer {k} {l} e =
-          answer_by false (tested draft old table arena work room h long) (refused_as out (by_old form oldText newText listing (length out) (refused k l) (refused_read q e)))
+  module _ (room : table_length ≤ length old) {b : Bool} (h : Short (length draft) (length table) (length arena) line_length (length work) b)
+      (long : b ≡ false) {old₁ : List ℕ} where
+    pub refused_answer : {f : Fault} → ReadInto oldText old old₁ (Err f) → Answers form oldText newText listing out draft old table arena work out (refused (number f.refusal) f.line)
+    refused_answer {f} q =
+        answer_by false (tested draft old table arena work room h long)
+        (refused_as out (by_old form oldText newText listing (length out) (refused (number f.refusal) f.line) (refused_read q refl)))
 
-      pub new_answer : {u : Table} {out' : List ℕ} {r : Outcome} → a ≡ Accepted u → ReadsNew form newText listing out old₁ u table arena work out' r
-          → Answers form oldText newText listing out draft old table arena work out' r
-      new_answer {u} e s =
-          let n = long_enough h long in
-          let is = accepted_read q e in
-          let before : Before (rules.from_sections (table_from u old₁)) u old₁ =
-          record { text = oldText; is = is; read = subst (Read oldText old₁) e q.read; long = omega (arith, q.apart.same_length) } in
-          answer_by false (tested draft old table arena work room h long)
-          (says_as out (by_old form oldText newText listing (length out) _ is)
-          (s.is before (record { table = n.0; arena = omega (arith, n.1); work = n.2 }) n.1))
+    pub new_answer : {u : Table} {out' : List ℕ} {r : Result ℕ} → ReadInto oldText old old₁ (Ok u) → ReadsNew form newText listing out old₁ u table arena work out' r
+        → Answers form oldText newText listing out draft old table arena work out' r
+    new_answer {u} q s =
+        let n = long_enough h long in
+        let is = accepted_read q refl in
+        let before : Before (rules.from_sections (table_from u old₁)) u old₁ =
+        record { text = oldText; is = is; read = q.read; long = omega (arith, q.apart.same_length) } in
+        answer_by false (tested draft old table arena work room h long)
+        (says_as out (by_old form oldText newText listing (length out) _ is)
+        (s.is before (record { table = n.0; arena = omega (arith, n.1); work = n.2 }) n.1))
 
 -- what `recheck_in` comes to
 pub rechecked : {form : Form} {oldText newText listing out draft old table arena work draft₁ table₁ arena₁ work₁ out' draft' old' table' arena' work' : List ℕ} {n : ℕ}
-    {r : Outcome} → Answers form oldText newText listing out draft old table arena work out' r
+    {r : Result ℕ} → Answers form oldText newText listing out draft old table arena work out' r
     → length draft₁ ≡ length draft → n ≡ length old → length table₁ ≡ length table → length arena₁ ≡ length arena → length work₁ ≡ length work
     → old' ≡ replicate n 0 → Wiped draft₁ table₁ arena₁ work₁ draft' table' arena' work'
     → Rechecked form oldText newText listing out draft old table arena work out' draft' old' table' arena' work' r

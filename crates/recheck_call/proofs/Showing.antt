@@ -10,7 +10,6 @@ use borrow.Author.Tests.{le-ltb}
 use Rattle.layout.specs.Layout.{draft_length, table_length, line_length, work_length}
 use Rattle.rules.specs.Table.{Result}
 use Rattle.rules.specs.Calls.{recheck, recheck_call, Split, split_next, printed, lent, recheck_parts, recheck_program}
-use Rattle.outcomes.specs.declared.Outcome.{Outcome}
 use Rattle.programs.specs.declared.Part.{Part}
 use Rattle.rules.specs.declared.Form.{Form}
 use Rattle.programs.specs.Shows.{Shows, ShowsOutcome}
@@ -26,7 +25,7 @@ recheck_full draft old table arena work ed eo et ea ew =
     rw (le-ltb (length old) table_length (omega arith)) (full (omega arith) (omega arith) (omega arith) (omega arith))
 
 pub recheck_shown : (form : Form) (oldText newText listing out : List ℕ)
-    {draft old table arena work out₁ draft₁ old₁ table₁ arena₁ work₁ out' : List ℕ} {outcome : Outcome} {r : ℕ}
+    {draft old table arena work out₁ draft₁ old₁ table₁ arena₁ work₁ out' : List ℕ} {outcome : Result ℕ} {r : ℕ}
     → draft_length ≡ length draft → table_length ≡ length old → table_length ≡ length table → line_length ≡ length arena → work_length ≡ length work
     → Rechecked form oldText newText listing out draft old table arena work out₁ draft₁ old₁ table₁ arena₁ work₁ outcome → length out₁ ≡ length out
     → ShowsOutcome outcome out₁ out' r → AnswersRecheck form oldText newText listing out out' r

@@ -3,12 +3,14 @@ use mathlib.Core.Path.{◌≡◌, sym, ◌∙◌}
 use Prim.Native.Nat.{ℕ}
 use mathlib.Core.List.{List}
 use Rattle.rules.specs.declared.Form.{Form}
-use Rattle.outcomes.specs.declared.Outcome.{Outcome}
+use Rattle.std.specs.Prelude.{Result as Outcome}
+use Rattle.rules.specs.declared.Fault.{Fault}
+use Rattle.outcomes.specs.Outcomes.{outcome_of}
 use Rattle.outcomes.proofs.Promises.{Same, called_unique}
 use Rattle.recheck_call.specs.Rechecked.{Rechecked}
 
 -- the outcome, the output and every scratch
-pub recheck_unique : (form : Form) (oldText newText listing out : List ℕ) {draft old table arena work o d s t a w o' d' s' t' a' w' : List ℕ} {r r' : Outcome}
-    → Rechecked form oldText newText listing out draft old table arena work o d s t a w r
-    → Rechecked form oldText newText listing out draft old table arena work o' d' s' t' a' w' r' → Same o d t a w r o' d' t' a' w' r' × (s ≡ s')
+pub recheck_unique : (form : Form) (oldText newText listing out : List ℕ) {draft old table arena work o d s t a w o' d' s' t' a' w' : List ℕ} {r r' : Outcome ℕ Fault}
+    → Rechecked form oldText newText listing out draft old table arena work o d s t a w (outcome_of r)
+    → Rechecked form oldText newText listing out draft old table arena work o' d' s' t' a' w' (outcome_of r') → Same o d t a w r o' d' t' a' w' r' × (s ≡ s')
 recheck_unique form oldText newText listing out x y = (called_unique x.called y.called, x.old_zero.is ∙ sym y.old_zero.is)

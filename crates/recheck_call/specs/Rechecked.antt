@@ -9,11 +9,10 @@ use Rattle.rules.specs.Listing.{old_listing}
 use Rattle.rules.specs.declared.Form.{Form}
 use Rattle.rules.specs.Calls.{fits, comparable, recheck_text, leaves, recheck_call}
 use Rattle.table.specs.declared.Table.{Table}
-use Rattle.table.specs.declared.Answer.TheVariants.{Accepted}
+use Rattle.std.specs.Prelude.{Ok}
 use Rattle.table.specs.Rows.{Read}
 use Rattle.outcomes.specs.Outcomes.{is_short, Says, Zero, Called}
 use Rattle.answers.specs.Runs.{Fresh}
-use Rattle.outcomes.specs.declared.Outcome.{Outcome}
 
 -- 20 for both: an old table, and what canon is lent, with an arena that takes a line of an old listing
 abbrev pub recheck_short : List ℕ → List ℕ → List ℕ → List ℕ → List ℕ → Bool
@@ -24,7 +23,7 @@ recheck_short draft old table arena work =
 pub record Before (T : rules.Table) (u : Table) (old : List ℕ) : Type 0 where
   pub text : List ℕ
   pub is : table_of text ≡ accepted T
-  pub read : Read text old (Accepted u)
+  pub read : Read text old (Ok u)
   pub long : table_length ≤ length old
 
 -- what is made of two tables that were accepted, as the rules have it
@@ -33,15 +32,15 @@ recheck_of form T₁ T₂ listing room =
     unless (comparable T₁ T₂) (λ _. refused 10 0)
     (λ _. then (old_listing form (length T₂.names) T₂.roots listing) (λ (texts : List (List ℕ)). fits room (recheck_text form T₁ T₂ texts)))
 
-pub record ComparesBoth (form : Form) (listing out old : List ℕ) (u : Table) (table : List ℕ) (t : Table) (arena work out' : List ℕ) (r : Outcome) : Type 0 where
+pub record ComparesBoth (form : Form) (listing out old : List ℕ) (u : Table) (table : List ℕ) (t : Table) (arena work out' : List ℕ) (r : Result ℕ) : Type 0 where
   pub is : {T₁ T₂ : rules.Table} → Before T₁ u old → Fresh T₂ t table arena work → line_length ≤ length arena
       → Says (leaves out (recheck_of form T₁ T₂ listing (length out))) out' r
 
-pub record Answers (form : Form) (oldText newText listing out draft old table arena work out' : List ℕ) (r : Outcome) : Type 0 where
+pub record Answers (form : Form) (oldText newText listing out draft old table arena work out' : List ℕ) (r : Result ℕ) : Type 0 where
   pub is : Says (recheck_call form oldText newText listing out (recheck_short draft old table arena work)) out' r
 
 -- what is promised of recheck, whose listings are plain, and of recheck_numbered
-pub record Rechecked (form : Form) (oldText newText listing out draft old table arena work out' draft' old' table' arena' work' : List ℕ) (r : Outcome) : Type 0 where
+pub record Rechecked (form : Form) (oldText newText listing out draft old table arena work out' draft' old' table' arena' work' : List ℕ) (r : Result ℕ) : Type 0 where
   pub called : Called (recheck_call form oldText newText listing out (recheck_short draft old table arena work))
       draft table arena work out' draft' table' arena' work' r
   pub old_zero : Zero old old'

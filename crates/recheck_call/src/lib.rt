@@ -5,18 +5,18 @@
 pub mod program;
 
 ghost use Rattle.rules.specs.declared.Form.TheVariants.{Plain, Numbered};
+ghost use Rattle.outcomes.specs.Outcomes.{outcome_of};
 ghost use Rattle.recheck_call.specs.Rechecked.{ComparesBoth, Answers, Rechecked};
 
 use affected::flag_redone;
 use answers::asked::{Asked, deliver};
-use cells::{clear, wipe};
+use cells::clear;
 use compare::comparable;
 use layout::{ArenaSlice, TableSlice};
-use old_listing::{Old, read_old};
-use outcomes::Outcome;
+use old_listing::{LineAtFault, read_old};
 use prepare::{first_root, number, prepare};
-use rules::Form;
-use table::{Answer, Table};
+use rules::{Fault, Form, Refusal};
+use table::Table;
 
 // Two tables that were accepted: 10, then 11, then the roots flagged and the text.
 fn compare_both(
@@ -30,28 +30,35 @@ fn compare_both(
     t: Table,
     arena: &mut [u32],
     work: &mut [u32],
-) -> Outcome
+) -> Result<u32, Fault>
     ensures { ComparesBoth form listing.now out.old old.old u table.old t arena.old
-        work.old out.new result }
+        work.old out.new (outcome_of result) }
 {
     if !comparable(old, u, table, t) {
-        return Outcome::Refused(10, 0);
+        return Err(Fault {
+            refusal: Refusal::Incomparable,
+            line: 0,
+        });
     }
+    let names = number(t.names);
+    let roots = number(t.roots);
     match read_old(
         form,
         listing,
         old,
         table,
         arena,
-        number(t.names),
+        names,
         first_root(t),
-        number(t.roots),
+        roots,
     ) {
-        Old::Refused(l) => Outcome::Refused(11, l),
-        Old::InForm => {
+        Err(LineAtFault(line)) => Err(Fault {
+            refusal: Refusal::Listing,
+            line,
+        }),
+        Ok(()) => {
             let g = prepare(table, t);
-            let c = g.canon;
-            flag_redone(old, table, work, c, g.first, g.roots);
+            flag_redone(old, table, work, g.canon, g.first, g.roots);
             deliver(
                 listing,
                 out,
@@ -80,34 +87,28 @@ fn answer(
     table: &mut [u32],
     arena: &mut [u32],
     work: &mut [u32],
-) -> Outcome
+) -> Result<u32, Fault>
     ensures { Answers form old_text.now new_text.now listing.now out.old draft.old
-        old.old table.old arena.old work.old out.new result }
+        old.old table.old arena.old work.old out.new (outcome_of result) }
 {
-    if old.len() < TableSlice::LENGTH {
-        return Outcome::Refused(20, 0);
+    if old.len() < TableSlice::LENGTH
+        || outcomes::is_short(
+            draft.len(),
+            table.len(),
+            arena.len(),
+            ArenaSlice::LINE,
+            work.len(),
+        )
+    {
+        return Err(Fault {
+            refusal: Refusal::Scratch,
+            line: 0,
+        });
     }
-    if outcomes::is_short(
-        draft.len(),
-        table.len(),
-        arena.len(),
-        ArenaSlice::LINE,
-        work.len(),
-    ) {
-        return Outcome::Refused(20, 0);
-    }
-    match table::read(old_text, old) {
-        Answer::Refused(k, l) => Outcome::Refused(k, l),
-        Answer::Accepted(u) => {
-            clear(table, 0, TableSlice::ROWS);
-            match table::read(new_text, table) {
-                Answer::Refused(k, l) => Outcome::Refused(k, l),
-                Answer::Accepted(t) => compare_both(
-                    form, listing, out, draft, old, u, table, t, arena, work,
-                ),
-            }
-        }
-    }
+    let u = table::read(old_text, old)?;
+    clear(table, 0, TableSlice::ROWS);
+    let t = table::read(new_text, table)?;
+    compare_both(form, listing, out, draft, old, u, table, t, arena, work)
 }
 
 // The listing of the new table in this form after a line of `kept` or `redone` for each root, or the refusal; the scratch is wiped after it.
@@ -122,15 +123,15 @@ pub fn recheck_in(
     table: &mut [u32],
     arena: &mut [u32],
     work: &mut [u32],
-) -> Outcome
+) -> Result<u32, Fault>
     ensures { Rechecked form old_text.now new_text.now listing.now out.old draft.old
         old.old table.old arena.old work.old out.new draft.new old.new
-        table.new arena.new work.new result }
+        table.new arena.new work.new (outcome_of result) }
 {
     let r = answer(
         form, old_text, new_text, listing, out, draft, old, table, arena, work,
     );
-    wipe(old);
+    old.fill(0);
     outcomes::wipe_all(draft, table, arena, work);
     r
 }
@@ -146,10 +147,10 @@ pub fn recheck(
     table: &mut [u32],
     arena: &mut [u32],
     work: &mut [u32],
-) -> Outcome
+) -> Result<u32, Fault>
     ensures { Rechecked Plain old_text.now new_text.now listing.now out.old draft.old
         old.old table.old arena.old work.old out.new draft.new old.new
-        table.new arena.new work.new result }
+        table.new arena.new work.new (outcome_of result) }
 {
     recheck_in(
         Form::Plain,
@@ -176,10 +177,10 @@ pub fn recheck_numbered(
     table: &mut [u32],
     arena: &mut [u32],
     work: &mut [u32],
-) -> Outcome
+) -> Result<u32, Fault>
     ensures { Rechecked Numbered old_text.now new_text.now listing.now out.old draft.old
         old.old table.old arena.old work.old out.new draft.new old.new
-        table.new arena.new work.new result }
+        table.new arena.new work.new (outcome_of result) }
 {
     recheck_in(
         Form::Numbered,

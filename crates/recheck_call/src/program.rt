@@ -2,18 +2,19 @@
 ghost use Rattle.recheck_call.specs.Program.{AnswersRecheck, AnswersParts};
 
 use crate::recheck_in;
-use programs::{behind, draft_room, line_room, shown, table_room, until_next, work_room};
+use layout::{ArenaSlice, DraftSlice, TableSlice, WorkSlice};
+use programs::{behind, shown, until_next};
 use rules::Form;
 
 // The answer to an old table, a new one and an old listing, alike.
 fn answer_recheck(form: Form, old: &[u8], new: &[u8], listing: &[u8], out: &mut [u8]) -> u32
     ensures { AnswersRecheck form old.now new.now listing.now out.old out.new result }
 {
-    let mut draft = draft_room();
-    let mut old_table = table_room();
-    let mut table = table_room();
-    let mut arena = line_room();
-    let mut work = work_room();
+    let mut draft = [0u8; DraftSlice::LENGTH];
+    let mut old_table = [0u32; TableSlice::LENGTH];
+    let mut table = [0u32; TableSlice::LENGTH];
+    let mut arena = [0u32; ArenaSlice::LINE];
+    let mut work = [0u32; WorkSlice::LENGTH];
     let r = recheck_in(
         form,
         old,

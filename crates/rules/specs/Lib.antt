@@ -1,6 +1,7 @@
 pub mod Plain
 pub mod Text
 pub mod Ceilings
+pub mod Refusals
 pub mod Table
 pub mod Types
 pub mod Order

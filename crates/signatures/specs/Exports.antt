@@ -2,31 +2,30 @@
 use Rattle.std.specs.Prelude.{◌≡◌, ℕ, ◌+◌, ◌*◌, ◌/◌, ◌%◌, ◌≤◌, ltb}
 use Rattle.cells.specs.Part.{if}
 use Rattle.rules.specs.Text.{greatest}
-use Rattle.outcomes.specs.declared.Outcome.{Outcome}
-use Rattle.outcomes.specs.declared.Outcome.TheVariants.{Written, Refused}
+use Rattle.rules.specs.Table.{Result, accepted, refused}
 
 -- one more than a number of 32 bits can be
 abbrev pub upper : ℕ
 upper = 4294967296
 
 -- the length written, or a refusal's number above its line
-abbrev pub code_of : Outcome → ℕ
-code_of (Written n) = n
-code_of (Refused k l) = k * upper + l
+abbrev pub code_of : Result ℕ → ℕ
+code_of (accepted n) = n
+code_of (refused k l) = k * upper + l
 
 -- the outcome that a number tells
-abbrev pub told_by : ℕ → Outcome
-told_by c = if (ltb c upper) (λ _. Written c) (λ _. Refused (c / upper) (c % upper))
+abbrev pub told_by : ℕ → Result ℕ
+told_by c = if (ltb c upper) (λ _. accepted c) (λ _. refused (c / upper) (c % upper))
 
 -- each part of an outcome is a number of 32 bits
-abbrev pub Numbered : Outcome → Type 0
-Numbered (Written n) = n ≤ greatest
-Numbered (Refused k l) = (k ≤ greatest) × (l ≤ greatest)
+abbrev pub Numbered : Result ℕ → Type 0
+Numbered (accepted n) = n ≤ greatest
+Numbered (refused k l) = (k ≤ greatest) × (l ≤ greatest)
 
-pub record Code (outcome : Outcome) (r : ℕ) : Type 0 where
+pub record Code (outcome : Result ℕ) (r : ℕ) : Type 0 where
   pub is : r ≡ code_of outcome
   pub numbered : Numbered outcome
 
 -- what a call promises of its outcome holds of the outcome that the number tells
-pub record Exported (Promised : Outcome → Type 0) (c : ℕ) : Type 0 where
+pub record Exported (Promised : Result ℕ → Type 0) (c : ℕ) : Type 0 where
   pub promised : Promised (told_by c)

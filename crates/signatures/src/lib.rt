@@ -5,19 +5,20 @@
 ghost use Rattle.rules.specs.declared.Form.TheVariants.{Plain, Numbered};
 ghost use Rattle.canon_call.specs.Called.{Canon, CanonRoot};
 ghost use Rattle.recheck_call.specs.Rechecked.{Rechecked};
+ghost use Rattle.outcomes.specs.Outcomes.{outcome_of};
 ghost use Rattle.signatures.specs.Exports.{Code, Exported};
 
 use canon_call::{canon, canon_numbered, canon_root};
-use outcomes::Outcome;
 use recheck_call::{recheck, recheck_numbered};
+use rules::Fault;
 
-// An outcome as one number: a refusal's number and line, or 0 and the length written. It tells no other outcome of a call.
-pub fn code(outcome: Outcome) -> u64
-    ensures { Code outcome result }
+// An outcome as one number, for the C interface: a refusal's number and line, or 0 and the length written. It tells no other outcome of a call.
+pub fn code(outcome: Result<u32, Fault>) -> u64
+    ensures { Code (outcome_of outcome) result }
 {
     match outcome {
-        Outcome::Written(n) => n as u64,
-        Outcome::Refused(k, l) => k as u64 * 4294967296 + l as u64,
+        Ok(n) => n as u64,
+        Err(f) => f.refusal.number() as u64 * 4294967296 + f.line as u64,
     }
 }
 

@@ -2,55 +2,20 @@
 use mathlib.Core.Path.{◌≡◌, refl, sym, ap, ap₂, ◌∙◌, subst}
 use mathlib.Core.Bool.{Bool, true, false, not}
 use Prim.Native.Nat.{ℕ}
-use native.Mathlib.Omega.{arith}
 use mathlib.Core.List.{List}
-use lib.ListN.{length, get_or}
 use lib.Dec.{eqb}
 use borrow.Author.Tests.{eqb-true, eqb-false, eq-eqb, ne_eqb, not-true, not-false}
 use Rattle.rules.specs.Plain.{all, both}
-use Rattle.rules.specs.Table.{Attr, attr_at, field_keys, dyn_ids}
+use Rattle.rules.specs.Table.{Attr, attr_at, field_keys}
 use Rattle.rules.specs.Members.{no_dyn_or_same, subsumes, subsumes_node}
 use Rattle.rules.specs.Types.{Node, TyVar, Primitive, ListOf, Lambda, AttrSet, Union, Intersection, Named, Neg, Bottom, Top, encode, kind_of, node_at, as_attr}
 use Rattle.laws.specs.Sound.{Orderly, OrderlySet}
 use Rattle.laws.proofs.Rows.{node_of}
 use Rattle.lang_ty.specs.Nodes.{Is}
 use Rattle.lang_ty.specs.Shapes.{SetPlace}
-use Rattle.lang_ty.specs.Sets.{SetAt, Dyns, DynType, Open, covers, FieldsCover}
+use Rattle.lang_ty.specs.Sets.{SetAt, Open, covers, FieldsCover}
 use Rattle.simplify.specs.Unions.{DynCovers, Subsumes}
-use mathlib.Core.Option.{Option, none, some}
-
--- two dyns, by how many there are
-same_none : (d e : Option ℕ) → length (dyn_ids d) ≡ 0 → no_dyn_or_same d e ≡ true
-same_none none e h = refl
-same_none (some a) e h = absurd (omega arith)
-
-same_alone : (d e : Option ℕ) → (length (dyn_ids d) ≡ 0 → ⊥) → length (dyn_ids e) ≡ 0 → no_dyn_or_same d e ≡ false
-same_alone none e h g = absurd (h refl)
-same_alone (some a) none h g = refl
-same_alone (some a) (some b) h g = absurd (omega arith)
-
-same_both : (d e : Option ℕ) → (length (dyn_ids d) ≡ 0 → ⊥) → (length (dyn_ids e) ≡ 0 → ⊥) → no_dyn_or_same d e ≡ eqb (get_or (dyn_ids d) 0 0) (get_or (dyn_ids e) 0 0)
-same_both none e h g = absurd (h refl)
-same_both (some a) none h g = absurd (g refl)
-same_both (some a) (some b) h g = refl
-
-module _ {w : List ℕ} {a b x : ℕ} (m : Dyns w a x) where
-  pub dyn_none : x ≡ 0 → DynCovers w a b true
-  dyn_none e = record { is = λ {t} {u} s v. sym (same_none t.dyn u.dyn (sym (m.is s) ∙ e)) }
-
-  module _ {y : ℕ} (has : x ≡ 0 → ⊥) (n : Dyns w b y) where
-    pub dyn_alone : y ≡ 0 → DynCovers w a b false
-    dyn_alone e = record { is = λ {t} {u} s v. sym (same_alone t.dyn u.dyn (λ z. has (m.is s ∙ z)) (sym (n.is v) ∙ e)) }
-
-    pub dyn_both : {j k : ℕ} {r : Bool} → (y ≡ 0 → ⊥) → DynType w a j → DynType w b k → r ≡ eqb j k → DynCovers w a b r
-    dyn_both other f g e =
-        record {
-          is = λ {t} {u} s v.
-              let p = m.is s in
-              let q = n.is v in
-              e ∙ ap₂ eqb (f.is s (omega (arith, has))) (g.is v (omega (arith, other)))
-              ∙ sym (same_both t.dyn u.dyn (λ z. has (p ∙ z)) (λ z. other (q ∙ z)));
-        }
+use mathlib.Core.Option.{none}
 
 -- the ways of `subsumes`: node y is no set, or the tests of two sets decide one after another
 pub no_attr : (n : Node) → (kind_of n ≡ 4 → ⊥) → as_attr n ≡ none
@@ -110,8 +75,8 @@ module _ {w : List ℕ} {x y : ℕ} {c : Bool} (k : Is w 4 y c) where
               ∙ sym (ap₂ (λ (p q : Bool). chain p q (no_dyn_or_same t.dyn u.dyn) (all (covers t u) (field_keys t.fields)))
               (eq-eqb t.is_open 1 (sym (first.is m) ∙ f)) (eq-eqb u.is_open 1 (sym (second.is v) ∙ g))))
 
-          pub subsumes_dyn : not d ≡ true → Subsumes w x y false
-          subsumes_dyn h = opened (λ t u m v _ _. sym (ap (λ (z : Bool). both z (λ _. all (covers t u) (field_keys t.fields))) (not-true d h)))
+          pub subsumes_dyn : d ≡ false → Subsumes w x y d
+          subsumes_dyn h = opened (λ t u m v _ _. h ∙ sym (ap (λ (z : Bool). both z (λ _. all (covers t u) (field_keys t.fields))) h))
 
-          pub subsumes_fields : {r : Bool} → not d ≡ false → FieldsCover w a b r → Subsumes w x y r
-          subsumes_fields h i = opened (λ t u m v x y. i.is m v x y ∙ sym (ap (λ (z : Bool). both z (λ _. all (covers t u) (field_keys t.fields))) (not-false d h)))
+          pub subsumes_fields : {r : Bool} → d ≡ true → FieldsCover w a b r → Subsumes w x y r
+          subsumes_fields h i = opened (λ t u m v x y. i.is m v x y ∙ sym (ap (λ (z : Bool). both z (λ _. all (covers t u) (field_keys t.fields))) h))

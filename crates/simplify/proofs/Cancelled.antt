@@ -6,7 +6,7 @@ use native.Mathlib.Omega.{arith}
 use mathlib.Core.List.{List, [], ◌∷◌, ◌++◌}
 use lib.ListN.{length, get_or}
 use lib.Dec.{eqb}
-use borrow.Author.Tests.{eqb-true, eqb-false, eq-eqb, ne_eqb, not-true, not-false}
+use borrow.Author.Tests.{eqb-true, eqb-false, eq-eqb, ne_eqb, not-true}
 use Rattle.cells.specs.Part.{if}
 use Rattle.rules.specs.Plain.{any, filter, contains, both}
 use Rattle.rules.specs.Types.{Node, TyVar, Primitive, ListOf, Lambda, AttrSet, Union, Intersection, Named, Neg, Bottom, Top, encode, kind_of, children, node_at, is}
@@ -16,10 +16,11 @@ use Rattle.lang_ty.specs.declared.arena.Pass.{Pass}
 use Rattle.lang_ty.specs.Nodes.{Arena, Word, Is}
 use Rattle.lang_ty.proofs.Words.{word_of}
 use Rattle.members.specs.declared.lists.Members.{Members}
-use Rattle.members.specs.Lists.{Taken, Makes, Tests, Asks, Contains, Pairs, any_of_kind, of_kind, sift, first_of}
-use Rattle.simplify.specs.Asked.{negates, AnyPair}
+use Rattle.members.specs.Lists.{Taken, Makes, Tests, Asks, SiftsBy, Contains, Pairs, any_of_kind, of_kind, sift}
+use Rattle.simplify.specs.Asked.{negates}
+use Rattle.simplify.proofs.Asking.{AnyPair}
 use Rattle.simplify.specs.Unions.{halved, Cancels}
-use Rattle.members.proofs.Gathered.{taken_list, listed, Tried, Sifted}
+use Rattle.members.proofs.Gathered.{taken_list}
 use Rattle.cells.specs.Placed.{Under}
 
 -- laws of the rules' lists
@@ -136,14 +137,14 @@ module _ {w : List ℕ} {m : ℕ} {c : Bool} (a : Is w 8 m c) where
   other {ns = ns} h lt e = no_inner (node_at ns m) (not_eqb (kind_of (node_at ns m)) 8 (sym e ∙ a.is h lt))
 
 -- `is_negation`
-pub negates_not : {w : List ℕ} {x m : ℕ} {c : Bool} → Is w 8 m c → not c ≡ true → Pairs negates w x m false
-negates_not {x = x} {c = c} a e = record { is = λ {q} {ns} h lx lt. sym (ap (λ (l : List ℕ). contains l x) (other a h lt (not-true c e))) }
+pub negates_not : {w : List ℕ} {x m : ℕ} {c : Bool} → Is w 8 m c → c ≡ false → Pairs negates w x m c
+negates_not {x = x} a e = record { is = λ {q} {ns} h lx lt. e ∙ sym (ap (λ (l : List ℕ). contains l x) (other a h lt e)) }
 
-pub negates_is : {w : List ℕ} {x m v : ℕ} {c r : Bool} → Is w 8 m c → not c ≡ false → Word w m 1 v → r ≡ eqb v x → Pairs negates w x m r
-negates_is {x = x} {v = v} {c = c} a e b g =
+pub negates_is : {w : List ℕ} {x m v : ℕ} {c : Bool} → Is w 8 m c → c ≡ true → Word w m 1 v → Pairs negates w x m (eqb v x)
+negates_is {x = x} {v = v} a e b =
     record {
       is = λ {q} {ns} h lx lt.
-          g ∙ swap_by v x (eqb v x) refl ∙ sym (once (eqb x v)) ∙ sym (ap (λ (n : Node). contains (inner_of n) x) (negation a h lt (not-false c e) b));
+          swap_by v x (eqb v x) refl ∙ sym (once (eqb x v)) ∙ sym (ap (λ (n : Node). contains (inner_of n) x) (negation a h lt e b));
     }
 
 -- the ways of `is_cancelled`
@@ -160,16 +161,16 @@ module _ {w : List ℕ} {x : ℕ} {c : Bool} (a : Is w 8 x c) where
         ∙ sym (ap (λ (k : Node). both (not (eqb (kind_of k) 8 || eqb (kind_of k) 0 || eqb (kind_of k) 9 || eqb (kind_of k) 10))
         (λ _. contains (negated_inners ns ys) x) || any (contains (filter (is_positive ns) xs)) (inner_of k)) n)
 
-    pub cancel_none : {ms gs : List ℕ} {n k : ℕ} → not d ≡ true → Cancels w ms n gs k x false
-    cancel_none z = record { is = λ {q} {ns} {xs} {ys} h t u lt. sym (ap (λ (b : Bool). both b (λ _. contains xs v)) (not-true d z)) ∙ held xs ys h lt }
+    pub cancel_none : {m g : Members} → d ≡ false → Cancels w m g x d
+    cancel_none z = record { is = λ {q} {ns} {xs} {ys} h t u lt. z ∙ sym (ap (λ (b : Bool). both b (λ _. contains xs v)) z) ∙ held xs ys h lt }
 
-    pub cancel_held : {ms gs : List ℕ} {n k : ℕ} {r : Bool} → not d ≡ false → Contains ms n v r → Cancels w ms n gs k x r
+    pub cancel_held : {m g : Members} {r : Bool} → d ≡ true → Contains m.at m.count v r → Cancels w m g x r
     cancel_held z g =
         record {
           is = λ {q} {ns} {xs} {ys} h t u lt.
               g.is
               ∙ ap (λ (l : List ℕ). contains l v) (taken_list t)
-              ∙ sym (ap (λ (b : Bool). both b (λ _. contains xs v)) (not-false d z))
+              ∙ sym (ap (λ (b : Bool). both b (λ _. contains xs v)) z)
               ∙ held xs ys h lt;
         }
 
@@ -181,14 +182,11 @@ module _ {w : List ℕ} {x : ℕ} {c : Bool} (a : Is w 8 x c) where
         ∙ sym (or_false (both (is_positive ns x) (λ _. contains (negated_inners ns ys) x)))
         ∙ sym (ap (λ (l : List ℕ). both (is_positive ns x) (λ _. contains (negated_inners ns ys) x) || any (contains (filter (is_positive ns) xs)) l) (other a h lt e))
 
-    pub cancel_not : {ms gs : List ℕ} {n k : ℕ} → not d ≡ true → Cancels w ms n gs k x false
-    cancel_not z = record { is = λ {q} {ns} {xs} {ys} h t u lt. sym (ap (λ (b : Bool). both b (λ _. any (negates ns x) ys)) (not-true d z)) ∙ alone xs ys h lt }
-
-    pub cancel_pair : {ms gs : List ℕ} {n k : ℕ} {r : Bool} → not d ≡ false → AnyPair negates w gs 0 k x r → Cancels w ms n gs k x r
+    pub cancel_pair : {m g : Members} {r : Bool} → d ≡ true → AnyPair negates w g 0 x r → Cancels w m g x r
     cancel_pair z g =
         record {
           is = λ {q} {ns} {xs} {ys} h t u lt.
-              g.is h u lt ∙ sym (ap (λ (b : Bool). both b (λ _. any (negates ns x) ys)) (not-false d z)) ∙ alone xs ys h lt;
+              g.is h u lt ∙ sym (ap (λ (b : Bool). both b (λ _. any (negates ns x) ys)) z) ∙ alone xs ys h lt;
         }
 
 -- `remove_tautological_pairs` keeps the others: all where no member is a Neg
@@ -204,18 +202,22 @@ unpaired_same {m = m} {b = b} g e =
           t;
     }
 
--- the test of the members, which looks at the Negs alone
-abbrev pub unpaired : List ℕ → List Node → ℕ → Bool
-unpaired xs ns x = not (halved ns xs xs x)
+-- the others, by the Negs alone
+abbrev pub unpaired : List Node → List ℕ → List ℕ → ℕ → Bool
+unpaired ns xs ys x = not (halved ns xs ys x)
 
-pub unpaired_one : {w ms gs : List ℕ} {n k x : ℕ} {b : Bool} → Makes (sift (of_kind 8 true)) w (first_of n ms) (first_of k gs) → Cancels w ms n gs k x b
-    → Tried (listed ms n) unpaired w x (not b)
-unpaired_one {x = x} g one =
-    record {
-      is = λ {q} {ns} xs h t lt.
-          ap not (one.is h t (g.is h t) lt ∙ ap (λ (l : List ℕ). cancelled ns (filter (is_positive ns) xs) l x) (inners_kept ns xs));
-    }
+pub record Unpaired (w : List ℕ) (m g : Members) (x : ℕ) (b : Bool) : Type 0 where
+  pub is : {q : Pass} {ns : List Node} {xs ys : List ℕ} → Arena w q ns → Taken m xs (length ns) → Taken g ys (length ns) → x < length ns → b ≡ unpaired ns xs ys x
 
-pub unpaired_all : {w : List ℕ} {m r : Members} → Sifted (listed m.at m.count) unpaired w m r → Makes remove_tautological_pairs w m r
+pub unpaired_one : {w : List ℕ} {m g : Members} {x : ℕ} {b d : Bool} → Cancels w m g x d → b ≡ not d → Unpaired w m g x b
+unpaired_one c e = record { is = λ h t u lt. e ∙ ap not (c.is h t u lt) }
+
+pub unpaired_all : {w : List ℕ} {m g r : Members} {Answered : ℕ → Bool → Type 0} → Makes (sift (of_kind 8 true)) w m g → SiftsBy Answered m r
+    → ((y : ℕ) (b : Bool) → Answered y b → Unpaired w m g y b) → Makes remove_tautological_pairs w m r
 unfolding remove_tautological_pairs
-unpaired_all g = record { is = λ {q} {ns} {xs} h t. g.is xs h t t }
+unpaired_all {r = r} g c says =
+    record {
+      is = λ {q} {ns} {xs} h t.
+          subst (λ (l : List ℕ). Taken r (filter (λ (y : ℕ). not (cancelled ns (filter (is_positive ns) xs) l y)) xs) (length ns)) (inners_kept ns xs)
+          (c.is (unpaired ns xs (filter (is ns 8) xs)) t (λ y b l a. (says y b a).is h t (g.is h t) l));
+    }

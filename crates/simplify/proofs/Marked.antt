@@ -22,9 +22,9 @@ use Rattle.lang_ty.specs.Nodes.{Arena, Is}
 use Rattle.members.specs.declared.lists.Members.{Members}
 use Rattle.members.specs.Lists.{Taken, Makes, Gathered, only, KeepsIf, first_of}
 use Rattle.simplify.specs.OwnKeys.{Idle, MarksOwn}
-use Rattle.simplify.specs.Unions.{Subsumes, Marked, MarksIf, Takes, MarksTaken, Leaves}
+use Rattle.simplify.specs.Unions.{Marked, MarksIf, Takes, MarksTaken, Leaves}
 use Rattle.laws.proofs.Filtering.{under_both}
-use Rattle.members.proofs.Gathered.{few_at, few_below, gathered_none, gathered_few}
+use Rattle.members.proofs.Gathered.{few_at, few_below, gathered_few}
 use Rattle.simplify.proofs.Cancelled.{any_both, once}
 use Rattle.simplify.proofs.Absorbed.{no_attr}
 use Rattle.simplify.proofs.OwnKeys.{idle_none}
@@ -55,48 +55,21 @@ module _ {gone ps : List ℕ} {j : ℕ} (m : Marked gone ps) (lt : j < most_memb
       }
 
 -- `mark_if`
-pub marks_not : {gone : List ℕ} {j : ℕ} {b : Bool} → b ≡ false → MarksIf gone j b gone
-marks_not {gone} {j} e = subst (λ (c : Bool). MarksIf gone j c gone) (sym e) (record { is = λ m lt. m })
-
 pub marks_one : {gone gone' : List ℕ} {j : ℕ} {b : Bool} → b ≡ true → gone' ≡ set gone j 1 → MarksIf gone j b gone'
 marks_one {gone} {gone'} {j} e f =
     subst (λ (c : Bool). MarksIf gone j c gone') (sym e)
     (record { is = λ {ps} m lt. subst (λ (g : List ℕ). Marked g (ps ++ (j ∷ []))) (sym f) (marked_more m lt) })
 
--- `takes_up`
+-- what `takes_up` answers
 abbrev wanted : Bool → Bool → Bool → Bool
 wanted same gone takes = both (not (same || gone)) (λ _. takes)
-
-module _ {w ms gone : List ℕ} {i x j : ℕ} where
-  pub takes_self : i ≡ j → Takes w ms i x j gone false
-  takes_self e =
-      record { is = λ {q} {ns} {t} {ps} h lx node lj m lt. sym (ap (λ (v : Bool). wanted v (contains ps j) (subsumes_node t (as_attr (node_at ns (cell ms j))))) (eq-eqb i j e)) }
-
-  module _ {y : ℕ} (other : i ≡ j → ⊥) (e : y ≡ cell gone j) where
-    pub takes_gone : (y ≡ 0 → ⊥) → Takes w ms i x j gone false
-    takes_gone f =
-        record {
-          is = λ {q} {ns} {t} {ps} h lx node lj m lt.
-              sym (ap₂ (λ (u v : Bool). wanted u v (subsumes_node t (as_attr (node_at ns (cell ms j))))) (ne_eqb i j other)
-              (not-false (contains ps j) (sym (m.is j lt) ∙ ne_eqb (cell gone j) 0 (λ z. f (e ∙ z)))));
-        }
-
-    pub takes_asks : {z : ℕ} {r : Bool} → y ≡ 0 → z ≡ cell ms j → Subsumes w x z r → Takes w ms i x j gone r
-    takes_asks {z} {r} f g a =
-        record {
-          is = λ {q} {ns} {t} {ps} h lx node lj m lt.
-              a.is h lx (omega arith) node
-              ∙ ap (λ (v : ℕ). subsumes_node t (as_attr (node_at ns v))) g
-              ∙ sym (ap₂ (λ (u v : Bool). wanted u v (subsumes_node t (as_attr (node_at ns (cell ms j))))) (ne_eqb i j other)
-              (not-true (contains ps j) (sym (m.is j lt) ∙ eq-eqb (cell gone j) 0 (sym e ∙ f))));
-        }
 
 -- the ways of `mark_taken`: the member is gone itself, is no set, or takes up others
 node_gone : (ns : List Node) (xs ps : List ℕ) (i : ℕ) (a : Option Attr) → contains ps i ≡ true → taken_by_node ns xs ps i a ≡ ps
 node_gone ns xs ps i none e = refl
 node_gone ns xs ps i (some a) e = ap (λ (b : Bool). if b (λ _. ps) (λ _. taken_by ns i a ps 0 xs)) e
 
-pub taken_gone : {w ms own gone : List ℕ} {n i y : ℕ} → y ≡ cell gone i → (y ≡ 0 → ⊥) → MarksTaken w ms n i own gone gone
+pub taken_gone : {w own gone : List ℕ} {g : Members} {i y : ℕ} → y ≡ cell gone i → (y ≡ 0 → ⊥) → MarksTaken w g i own gone gone
 taken_gone {gone = gone} {i = i} e f =
     record {
       is = λ {q} {ns} {xs} {ps} h t lt _ m.
@@ -108,7 +81,7 @@ taken_gone {gone = gone} {i = i} e f =
           m;
     }
 
-pub taken_none : {w ms own gone : List ℕ} {n i x : ℕ} {b : Bool} → x ≡ cell ms i → Is w 4 x b → not b ≡ true → MarksTaken w ms n i own gone gone
+pub taken_none : {w own gone : List ℕ} {g : Members} {i x : ℕ} {b : Bool} → x ≡ cell g.at i → Is w 4 x b → not b ≡ true → MarksTaken w g i own gone gone
 taken_none {gone = gone} {i = i} {x = x} {b = b} e k f =
     record {
       is = λ {q} {ns} {xs} {ps} h t lt _ m.
@@ -137,7 +110,7 @@ node_idle {ns} {xs} ps i (some t) o lt f e =
     ap (λ (l : List ℕ). if (contains ps i) (λ _. ps) (λ _. l)) (taken_nothing ns i t ps 0 xs (λ d l other. o.is i lt f e d l (λ z. other (omega arith))))
     ∙ if_same (contains ps i) ps
 
-pub taken_own : {w ms own gone : List ℕ} {n i y : ℕ} → y ≡ cell own i → (y ≡ 0 → ⊥) → MarksTaken w ms n i own gone gone
+pub taken_own : {w own gone : List ℕ} {g : Members} {i y : ℕ} → y ≡ cell own i → (y ≡ 0 → ⊥) → MarksTaken w g i own gone gone
 taken_own {gone = gone} {i = i} e f =
     record {
       is = λ {q} {ns} {xs} {ps} h t lt o m.
@@ -152,17 +125,14 @@ pub record Midmark (ns : List Node) (i : ℕ) (t : Attr) (xs ps gone : List ℕ)
   pub marked : Marked gone now
   pub is : taken_by ns i t ps 0 xs ≡ taken_by ns i t now j (drop j xs)
 
-pub record Marking (w ms : List ℕ) (n i x : ℕ) (gone₀ gone : List ℕ) (j : ℕ) : Type 0 where
-  pub few : j ≤ n
-  pub is : {q : Pass} {ns : List Node} {xs ps : List ℕ} {t : Attr} → Arena w q ns → Taken (first_of n ms) xs (length ns) → x < length ns → node_at ns x ≡ AttrSet t
+pub record Marking (w : List ℕ) (s : Members) (i x : ℕ) (gone₀ gone : List ℕ) (j : ℕ) : Type 0 where
+  pub few : j ≤ s.count
+  pub is : {q : Pass} {ns : List Node} {xs ps : List ℕ} {t : Attr} → Arena w q ns → Taken s xs (length ns) → x < length ns → node_at ns x ≡ AttrSet t
       → Marked gone₀ ps → Midmark ns i t xs ps gone j
 
-module _ {w ms gone₀ : List ℕ} {n i x : ℕ} where
-  pub marking_start : Marking w ms n i x gone₀ gone₀ 0
-  marking_start = record { few = omega arith; is = λ {q} {ns} {xs} {ps} h t lx node m. record { now = ps; marked = m; is = refl } }
-
-  pub marking_more : {gone gone' : List ℕ} {j : ℕ} {b : Bool} → Marking w ms n i x gone₀ gone j → j < n → Takes w ms i x j gone b → MarksIf gone j b gone'
-      → Marking w ms n i x gone₀ gone' (j + 1)
+module _ {w gone₀ : List ℕ} {s : Members} {i x : ℕ} where
+  pub marking_more : {gone gone' : List ℕ} {j : ℕ} {b : Bool} → Marking w s i x gone₀ gone j → j < s.count → Takes w s.at i x j gone b → MarksIf gone j b gone'
+      → Marking w s i x gone₀ gone' (j + 1)
   marking_more {gone} {gone'} {j} {b} c lt a g =
       record {
         few = omega arith;
@@ -184,8 +154,8 @@ module _ {w ms gone₀ : List ℕ} {n i x : ℕ} where
             };
       }
 
-  pub marking_done : {own gone : List ℕ} {j y : ℕ} {b : Bool} → y ≡ cell gone₀ i → y ≡ 0 → x ≡ cell ms i → Is w 4 x b → not b ≡ false → Marking w ms n i x gone₀ gone j → n ≤ j
-      → MarksTaken w ms n i own gone₀ gone
+  pub marking_done : {own gone : List ℕ} {j y : ℕ} {b : Bool} → y ≡ cell gone₀ i → y ≡ 0 → x ≡ cell s.at i → Is w 4 x b → not b ≡ false → Marking w s i x gone₀ gone j → s.count ≤ j
+      → MarksTaken w s i own gone₀ gone
   marking_done {gone = gone} {j} {y} {b} e f g k z c le =
       record {
         is = λ {q} {ns} {xs} {ps} h m lt _ o.
@@ -213,9 +183,9 @@ pub record Midleft (xs ps : List ℕ) (top : ℕ) (out : List ℕ) (k i : ℕ) :
   pub few : length got ≤ i
   pub is : left ps 0 xs ≡ got ++ left ps i (drop i xs)
 
-pub record Leaving (gone ms : List ℕ) (n : ℕ) (out : List ℕ) (k i : ℕ) : Type 0 where
-  pub few : i ≤ n
-  pub is : {xs ps : List ℕ} {top : ℕ} → Taken (first_of n ms) xs top → Marked gone ps → Midleft xs ps top out k i
+pub record Leaving (gone : List ℕ) (s : Members) (out : List ℕ) (k i : ℕ) : Type 0 where
+  pub few : i ≤ s.count
+  pub is : {xs ps : List ℕ} {top : ℕ} → Taken s xs top → Marked gone ps → Midleft xs ps top out k i
 
 only_left : (b : Bool) (x : ℕ) (l : List ℕ) → if b (λ _. l) (λ _. x ∷ l) ≡ only (not b) x ++ l
 only_left true x l = refl
@@ -229,16 +199,9 @@ only_under : (b : Bool) (x k : ℕ) → x < k → Under k (only b x)
 only_under true x k lt = (lt, tt)
 only_under false x k lt = tt
 
-module _ {gone ms : List ℕ} {n : ℕ} where
-  pub leaving_start : Leaving gone ms n (replicate most_members 0) 0 0
-  leaving_start =
-      record {
-        few = omega arith;
-        is = λ t m. record { got = []; gathered = gathered_none (length-replicate {A = ℕ} most_members 0); below = tt; few = omega arith; is = refl };
-      }
-
-  pub leaving_more : {out out' : List ℕ} {k k' i x y : ℕ} {b : Bool} → Leaving gone ms n out k i → i < n → x ≡ cell ms i → y ≡ cell gone i → b ≡ eqb y 0 → KeepsIf out k x b out' k'
-      → Leaving gone ms n out' k' (i + 1)
+module _ {gone : List ℕ} {s : Members} where
+  pub leaving_more : {out out' : List ℕ} {k k' i x y : ℕ} {b : Bool} → Leaving gone s out k i → i < s.count → x ≡ cell s.at i → y ≡ cell gone i → b ≡ eqb y 0 → KeepsIf out k x b out' k'
+      → Leaving gone s out' k' (i + 1)
   leaving_more {out} {out'} {k} {k'} {i} {x} {y} {b} c lt e f z g =
       record {
         few = omega arith;
@@ -264,7 +227,7 @@ module _ {gone ms : List ℕ} {n : ℕ} where
             };
       }
 
-  pub leaving_done : {out : List ℕ} {k i : ℕ} → Leaving gone ms n out k i → n ≤ i → Leaves (first_of n ms) gone (first_of k out)
+  pub leaving_done : {out : List ℕ} {k i : ℕ} → Leaving gone s out k i → s.count ≤ i → Leaves s gone (first_of k out)
   leaving_done {out} {k} {i} c le =
       record {
         is = λ {xs} {ps} {k = top} t m.
@@ -281,16 +244,16 @@ pub record Midway (ns : List Node) (xs gone : List ℕ) (i : ℕ) : Type 0 where
   pub marked : Marked gone now
   pub is : taken_up ns xs [] 0 xs ≡ taken_up ns xs now i (drop i xs)
 
-pub record Absorbing (w ms : List ℕ) (n : ℕ) (gone : List ℕ) (i : ℕ) : Type 0 where
-  pub few : i ≤ n
-  pub is : {q : Pass} {ns : List Node} {xs : List ℕ} → Arena w q ns → Taken (first_of n ms) xs (length ns) → Midway ns xs gone i
+pub record Absorbing (w : List ℕ) (s : Members) (gone : List ℕ) (i : ℕ) : Type 0 where
+  pub few : i ≤ s.count
+  pub is : {q : Pass} {ns : List Node} {xs : List ℕ} → Arena w q ns → Taken s xs (length ns) → Midway ns xs gone i
 
-module _ {w ms : List ℕ} {n : ℕ} where
-  pub absorbing_start : Absorbing w ms n (replicate most_members 0) 0
+module _ {w : List ℕ} {s : Members} where
+  pub absorbing_start : Absorbing w s (replicate most_members 0) 0
   absorbing_start = record { few = omega arith; is = λ h t. record { now = []; marked = marked_none; is = refl } }
 
-  pub absorbing_more : {own gone gone' : List ℕ} {i : ℕ} → MarksOwn w ms n (replicate most_members 0) own → Absorbing w ms n gone i → i < n → MarksTaken w ms n i own gone gone'
-      → Absorbing w ms n gone' (i + 1)
+  pub absorbing_more : {own gone gone' : List ℕ} {i : ℕ} → MarksOwn w s (replicate most_members 0) own → Absorbing w s gone i → i < s.count → MarksTaken w s i own gone gone'
+      → Absorbing w s gone' (i + 1)
   absorbing_more {i = i} o c lt g =
       record {
         few = omega arith;
@@ -307,7 +270,7 @@ module _ {w ms : List ℕ} {n : ℕ} where
             };
       }
 
-  pub absorbing_done : {gone : List ℕ} {i : ℕ} {r : Members} → Absorbing w ms n gone i → n ≤ i → Leaves (first_of n ms) gone r → Makes absorb_subsumed_union_members w (first_of n ms) r
+  pub absorbing_done : {gone : List ℕ} {i : ℕ} {r : Members} → Absorbing w s gone i → s.count ≤ i → Leaves s gone r → Makes absorb_subsumed_union_members w s r
   unfolding absorb_subsumed_union_members
   absorbing_done {gone} {i} {r} c le g =
       record {

@@ -12,6 +12,10 @@ use lib.Seq.{get_or-set_same, get_or-set_other}
 use lib.Dec.{eqb}
 use borrow.Author.Count.{below_more}
 use borrow.Author.Tests.{eqb-true, eqb-false, not-true, not-false}
+use Rattle.std.specs.List.{range_with_len, HoldsAt}
+use Rattle.std.specs.Bool.{MatchBool}
+use Rattle.std.proofs.lemmas.Bool.{MatchBool-at_true}
+use Rattle.std.proofs.lemmas.List.FromFn.{length-range_with_len, get_or-range_with_len}
 use Rattle.cells.specs.Part.{cell, if}
 use Rattle.cells.specs.Sum.{Sum}
 use Rattle.cells.proofs.Choices.{true_false, not_so, if_false}
@@ -30,7 +34,8 @@ use Rattle.lang_ty.specs.Nodes.{Arena, Is}
 use Rattle.lang_ty.specs.Shapes.{SetPlace}
 use Rattle.lang_ty.specs.Sets.{SetAt, Fields, Key, Optionals, covers}
 use Rattle.lang_ty.proofs.Shapes.{set_of, set_at_lem, set_orderly}
-use Rattle.members.specs.Lists.{Taken, first_of}
+use Rattle.members.specs.declared.lists.Members.{Members}
+use Rattle.members.specs.Lists.{Taken}
 use Rattle.members.proofs.Gathered.{few_at, few_below}
 use Rattle.simplify.specs.OwnKeys.{keys_of, HasKey, Raised, CountsKeys, CountsMember, Tallied, CountsMembers, Owns, OwnKey, MarksIfOwn, Idle, MarksOwn}
 use Rattle.simplify.proofs.Absorbed.{no_attr}
@@ -132,8 +137,8 @@ module _ {w : List ℕ} {x : ℕ} {b : Bool} (k : Is w 4 x b) where
       }
 
 -- `count_members` at member i
-pub record Tallying (w ms : List ℕ) (n : ℕ) (counts₀ counts : List ℕ) (i : ℕ) : Type 0 where
-  pub is : {q : Pass} {ns : List Node} {xs : List ℕ} → Arena w q ns → Taken (first_of n ms) xs (length ns) → most_names ≤ length counts₀ → Tallied ns xs i counts
+pub record Tallying (w : List ℕ) (s : Members) (counts₀ counts : List ℕ) (i : ℕ) : Type 0 where
+  pub is : {q : Pass} {ns : List Node} {xs : List ℕ} → Arena w q ns → Taken s xs (length ns) → most_names ≤ length counts₀ → Tallied ns xs i counts
 
 tallied_more : {ns : List Node} {xs counts counts' : List ℕ} {i : ℕ} → Tallied ns xs i counts → Raised (keys_of (as_attr (node_at ns (get_or xs i 0)))) counts counts'
     → Tallied ns xs (i + 1) counts'
@@ -144,12 +149,12 @@ tallied_more {ns} {xs} {counts} {counts'} {i} t r =
           (λ l less k has had. r.rises k 1 had (omega arith) (t.one l less k has));
     }
 
-module _ {w ms : List ℕ} {n : ℕ} {counts₀ : List ℕ} where
-  pub tallying_start : Tallying w ms n counts₀ counts₀ 0
+module _ {w : List ℕ} {s : Members} {counts₀ : List ℕ} where
+  pub tallying_start : Tallying w s counts₀ counts₀ 0
   tallying_start = record { is = λ h t room. record { one = λ i lt. absurd (omega arith); two = λ j lt. absurd (omega arith) } }
 
-  pub tallying_more : {counts counts' : List ℕ} {i x : ℕ} → Tallying w ms n counts₀ counts i → length counts ≡ length counts₀ → i < n → x ≡ cell ms i → CountsMember w x counts counts'
-      → Tallying w ms n counts₀ counts' (i + 1)
+  pub tallying_more : {counts counts' : List ℕ} {i x : ℕ} → Tallying w s counts₀ counts i → length counts ≡ length counts₀ → i < s.count → x ≡ cell s.at i → CountsMember w x counts counts'
+      → Tallying w s counts₀ counts' (i + 1)
   tallying_more {counts} {counts'} {i} {x} c same lt e g =
       record {
         is = λ {q} {ns} {xs} h t room.
@@ -157,7 +162,7 @@ module _ {w ms : List ℕ} {n : ℕ} {counts₀ : List ℕ} where
             (subst (λ (y : ℕ). Raised (keys_of (as_attr (node_at ns y))) counts counts') (few_at t.list e lt) (g.is h (few_below t e lt) (omega arith)));
       }
 
-  pub tallying_done : {counts : List ℕ} {i : ℕ} → Tallying w ms n counts₀ counts i → n ≤ i → CountsMembers w ms n counts₀ counts
+  pub tallying_done : {counts : List ℕ} {i : ℕ} → Tallying w s counts₀ counts i → s.count ≤ i → CountsMembers w s counts₀ counts
   tallying_done c le =
       record {
         is = λ h t room.
@@ -166,13 +171,10 @@ module _ {w ms : List ℕ} {n : ℕ} {counts₀ : List ℕ} where
       }
 
 -- `has_own_key`: the answer says something only where it is yes
-pub own_no : {w counts : List ℕ} {x : ℕ} → OwnKey w counts x false
-own_no = record { is = λ h lt e. true_false (sym e) }
-
 some_same : {t u : Attr} → some t ≡ some u → t ≡ u
 some_same e = cc
 
-pub own_yes : {w counts : List ℕ} {x a o n i k v : ℕ} {b : Bool} → Is w 4 x b → not b ≡ false → SetPlace w x a → Optionals w a o → o ≡ 0 → Fields w a n → i < n → Key w a i k
+own_yes : {w counts : List ℕ} {x a o n i k v : ℕ} {b : Bool} → Is w 4 x b → not b ≡ false → SetPlace w x a → Optionals w a o → o ≡ 0 → Fields w a n → i < n → Key w a i k
     → v ≡ cell counts k → v ≡ 1 → OwnKey w counts x true
 own_yes {counts = counts} {x = x} {i = i} {k = k} {b = b} l c p s e f lt key g one =
     record {
@@ -189,6 +191,27 @@ own_yes {counts = counts} {x = x} {i = i} {k = k} {b = b} l c p s e f lt key g o
             required = λ u z. ap (λ (v : Attr). length v.optional) (sym (some_same z)) ∙ sym (s.is at) ∙ e;
             once = sym g ∙ one;
           });
+    }
+
+-- field i of the set at a has a key that was counted once
+pub record Once (w counts : List ℕ) (a i : ℕ) : Type 0 where
+  pub key : ℕ
+  pub is : Key w a i key
+  pub once : cell counts key ≡ 1
+
+pub once_at : {w counts : List ℕ} {a i k v : ℕ} → Key w a i k → v ≡ cell counts k → v ≡ 1 → Once w counts a i
+once_at {k = k} key e one = record { key = k; is = key; once = sym e ∙ one }
+
+pub own_any : {w counts : List ℕ} {x a o n : ℕ} {b r : Bool} (No : Type 0) → Is w 4 x b → not b ≡ false → SetPlace w x a → Optionals w a o → o ≡ 0 → Fields w a n
+    → MatchBool r ((k : ℕ) × (k < length (range_with_len 0 n)) × HoldsAt (Once w counts a) (range_with_len 0 n) k) No → OwnKey w counts x r
+own_any {w} {counts} {a = a} {n = n} No l c p s e f found =
+    record {
+      is = λ {q} {ns} h lx yes.
+          let some = MatchBool-at_true _ _ yes found in
+          let lt : some.0 < n = omega (arith, some.1, length-range_with_len 0 n) in
+          let here = get_or-range_with_len 0 n some.0 0 lt in
+          let once = subst (Once w counts a) (omega (arith, here)) (some.2 0) in
+          (own_yes l c p s e f lt once.is refl once.once).is h lx refl;
     }
 
 -- a set does not take up another that lacks a key which it requires
@@ -245,12 +268,12 @@ pub idle_none : {ns : List Node} {xs : List ℕ} → length xs ≤ most_members 
 idle_none few = record { is = λ i lt m. absurd (m (get_or-replicate most_members i 0 0 (omega arith))) }
 
 -- `mark_own`: a short list, and what one more member adds
-module _ {w ms : List ℕ} {n : ℕ} {own₀ : List ℕ} where
-  pub owning_none : MarksOwn w ms n own₀ own₀
+module _ {w : List ℕ} {s : Members} {own₀ : List ℕ} where
+  pub owning_none : MarksOwn w s own₀ own₀
   owning_none = record { is = λ h t o. o }
 
-  pub owning_more : {counts own own' : List ℕ} {i x : ℕ} → CountsMembers w ms n (replicate most_names 0) counts → MarksOwn w ms n own₀ own → i < n → x ≡ cell ms i
-      → MarksIfOwn w counts x i own own' → MarksOwn w ms n own₀ own'
+  pub owning_more : {counts own own' : List ℕ} {i x : ℕ} → CountsMembers w s (replicate most_names 0) counts → MarksOwn w s own₀ own → i < s.count → x ≡ cell s.at i
+      → MarksIfOwn w counts x i own own' → MarksOwn w s own₀ own'
   owning_more {counts} {own} {own'} {i} {x} a c lt e g =
       record {
         is = λ {q} {ns} {xs} h t o.

@@ -13,13 +13,12 @@ use Rattle.rules.specs.Members.{inner_of, is_concrete, Shape, primitive_s, shape
 use Rattle.laws.proofs.Rows.{node_of, by_kind}
 use Rattle.lang_ty.specs.declared.arena.Pass.{Pass}
 use Rattle.lang_ty.specs.Nodes.{Arena, Word, Is}
-use Rattle.lang_ty.specs.Shapes.{Disjoint, Subtype}
+use Rattle.lang_ty.specs.Shapes.{Subtype}
 use Rattle.lang_ty.proofs.Words.{word_of, neg_at}
 use Rattle.members.specs.declared.lists.Members.{Members}
-use Rattle.members.specs.Lists.{Taken, Makes, Asks, Pairs, Beside, Sifts}
-use Rattle.simplify.specs.Asked.{overlap, redundant, sieve, member_test, AnyPair, AnyBeside}
-use Rattle.simplify.specs.declared.beside.Sieve.TheVariants.{Needed}
-use Rattle.simplify.specs.declared.beside.MemberTest.TheVariants.{Concrete}
+use Rattle.members.specs.Lists.{Taken, Makes, Tests, Pairs, Beside, Sifts}
+use Rattle.simplify.specs.Asked.{overlap, redundant}
+use Rattle.simplify.proofs.Asking.{AnyPair, denied}
 use Rattle.simplify.proofs.Cancelled.{no_inner, once}
 use Rattle.members.proofs.Gathered.{all_not}
 use Rattle.cells.specs.Placed.{Under}
@@ -43,26 +42,9 @@ empty_any : (c : ℕ → Bool) (xs : List ℕ) → empty (filter c xs) ≡ not (
 empty_any c [] = refl
 empty_any c (x ∷ xs) = empty_turn c x xs (c x) (empty_any c xs)
 
--- `overlaps`
-module _ {w : List ℕ} (functor : ℕ) {x y : ℕ} {c : Bool} (known : Asks is_concrete w y c) where
-  pub overlaps_not : not c ≡ true → Pairs (overlap functor) w x y false
-  overlaps_not e =
-      record {
-        is = λ {q} {ns} h lx ly.
-            sym (ap (λ (b : Bool). both b (λ _. not (are_output_types_disjoint functor ns y x))) (sym (known.is h ly) ∙ not-true c e));
-      }
-
-  pub overlaps_so : {d r : Bool} → not c ≡ false → Disjoint w functor y x d → r ≡ not d → Pairs (overlap functor) w x y r
-  overlaps_so e apart f =
-      record {
-        is = λ {q} {ns} h lx ly.
-            f ∙ ap not (apart.is h ly lx)
-            ∙ sym (ap (λ (b : Bool). both b (λ _. not (are_output_types_disjoint functor ns y x))) (sym (known.is h ly) ∙ not-false c e));
-      }
-
 -- `is_redundant`
-module _ {w ms : List ℕ} (functor : ℕ) {n x : ℕ} {b : Bool} (neg : Is w 8 x b) where
-  pub redundant_not : not b ≡ true → Beside (redundant functor) w ms n x false
+module _ {w : List ℕ} {g : Members} (functor : ℕ) {x : ℕ} {b : Bool} (neg : Is w 8 x b) where
+  pub redundant_not : not b ≡ true → Beside (redundant functor) w g.at g.count x false
   redundant_not e =
       record {
         is = λ {q} {ns} {xs} h m lt.
@@ -70,7 +52,7 @@ module _ {w ms : List ℕ} (functor : ℕ) {n x : ℕ} {b : Bool} (neg : Is w 8 
             (no_inner (node_at ns x) (eqb-false (kind_of (node_at ns x)) 8 (sym (neg.is h lt) ∙ not-true b e))));
       }
 
-  pub redundant_neg : {a : ℕ} {d r : Bool} → not b ≡ false → Word w x 1 a → AnyPair (overlap functor) w ms 0 n a d → r ≡ not d → Beside (redundant functor) w ms n x r
+  pub redundant_neg : {a : ℕ} {d r : Bool} → not b ≡ false → Word w x 1 a → AnyPair (overlap functor) w g 0 a d → r ≡ not d → Beside (redundant functor) w g.at g.count x r
   redundant_neg {a} {d} {r} e inner over f =
       record {
         is = λ {q} {ns} {xs} h m lt.
@@ -84,7 +66,10 @@ module _ {w ms : List ℕ} (functor : ℕ) {n x : ℕ} {b : Bool} (neg : Is w 8 
       }
 
 -- `remove_redundant_negations`
-module _ {w : List ℕ} {m : Members} (functor : ℕ) {b : Bool} (some : AnyBeside (member_test Concrete) w m.at m.count m.at m.count b) where
+abbrev pub some_concrete : List Node → List ℕ → Bool
+some_concrete ns xs = any (is_concrete ns) xs
+
+module _ {w : List ℕ} {m : Members} (functor : ℕ) {b : Bool} (some : Tests some_concrete w m b) where
   pub removes_none : not b ≡ true → Makes (remove_redundant_negations functor) w m m
   unfolding remove_redundant_negations
   removes_none e =
@@ -92,18 +77,18 @@ module _ {w : List ℕ} {m : Members} (functor : ℕ) {b : Bool} (some : AnyBesi
         is = λ {q} {ns} {xs} h t.
             subst (λ (l : List ℕ). Taken m l (length ns))
             (sym (ap (λ (v : Bool). if v (λ _. xs) (λ _. filter (λ (y : ℕ). not (redundant functor ns xs y)) xs))
-            (empty_any (is_concrete ns) xs ∙ ap not (sym (some.is h t t)) ∙ e)))
+            (empty_any (is_concrete ns) xs ∙ ap not (sym (some.is h t)) ∙ e)))
             t;
       }
 
-  pub removes_some : {r : Members} → not b ≡ false → Sifts (sieve (Needed functor)) w m.at m.count m r → Makes (remove_redundant_negations functor) w m r
+  pub removes_some : {r : Members} → not b ≡ false → Sifts (denied (redundant functor)) w m.at m.count m r → Makes (remove_redundant_negations functor) w m r
   unfolding remove_redundant_negations
   removes_some {r} e g =
       record {
         is = λ {q} {ns} {xs} h t.
             subst (λ (l : List ℕ). Taken r l (length ns))
             (sym (ap (λ (v : Bool). if v (λ _. xs) (λ _. filter (λ (y : ℕ). not (redundant functor ns xs y)) xs))
-            (empty_any (is_concrete ns) xs ∙ ap not (sym (some.is h t t)) ∙ e)))
+            (empty_any (is_concrete ns) xs ∙ ap not (sym (some.is h t)) ∙ e)))
             (g.is h t t);
       }
 

@@ -4,87 +4,50 @@ use mathlib.Core.Bool.{Bool, true, false, not}
 use Prim.Native.Nat.{ℕ, ◌+◌, ◌≤◌, ◌<◌}
 use native.Mathlib.Omega.{arith}
 use mathlib.Core.List.{List, [], ◌∷◌, ◌++◌}
-use lib.ListN.{length, get_or, replicate}
-use lib.Dec.{eqb, ltb}
+use lib.ListN.{length, get_or}
+use lib.Dec.{eqb}
 use borrow.Author.Tests.{not-true, not-false}
 use Rattle.cells.specs.Part.{cell, if}
-use Rattle.rules.specs.Ceilings.{most_members}
-use Rattle.rules.specs.Plain.{any, filter, empty, both}
+use Rattle.rules.specs.Plain.{any, filter, empty}
 use Rattle.rules.specs.Types.{Node, TyVar, Primitive, ListOf, Lambda, AttrSet, Union, Intersection, Named, Neg, Bottom, Top, State, Out, Run, bind, ◌>>=◌, give, ask, kind_of, node_at, is}
-use Rattle.rules.specs.Members.{members_at, inner_of, negated_inners, spared, sole, simplify_one, simplify_each, takes_some, remove_redundant_negations}
+use Rattle.rules.specs.Members.{inner_of, negated_inners, spared, sole, simplify_one, simplify_each, takes_some, remove_redundant_negations}
 use Rattle.rules.specs.Members.{simplify_union_neg_intersection}
 use Rattle.laws.proofs.Keeping.{bind_none, Later, later_node, later_under, keeps_if, keeps_give, keeps_union}
 use Rattle.lang_ty.specs.declared.arena.Pass.{Pass}
-use Rattle.lang_ty.specs.Nodes.{Stands, Is, Count}
+use Rattle.lang_ty.specs.Nodes.{Stands, Is}
 use Rattle.members.specs.declared.lists.Members.{Members}
-use Rattle.members.specs.declared.lists.Flow.{Flow}
-use Rattle.members.specs.declared.lists.Flow.TheVariants.{On, Refused}
-use Rattle.members.specs.declared.lists.Listed.{Listed}
-use Rattle.members.specs.declared.lists.AtMostOne.{AtMostOne}
-use Rattle.members.specs.declared.lists.AtMostOne.TheVariants.{One}
-use Rattle.members.specs.declared.lists.Grown.{Grown as GrownBy}
-use Rattle.members.specs.declared.lists.Grown.TheVariants.{On as OnG, Refused as RefusedG}
-use Rattle.members.specs.Lists.{Taken, Makes, Tests, Runs, Refuses, Soles, Grows, MembersOf, Beside, Sifts, AnswersFlow, AnswersPart, AnswersGrown, any_of_kind, of_kind, sift, first_of}
-use Rattle.simplify.specs.Asked.{sieve, Spares, takes, member_test, AnyBeside}
+use Rattle.members.specs.Flow.{Flow}
+use Rattle.members.specs.Flow.{On, Refused}
+use Rattle.members.specs.Listed.{Listed}
+use Rattle.members.specs.AtMostOne.{AtMostOne}
+use Rattle.members.specs.Grown.{Grown as GrownBy}
+use Rattle.members.specs.Grown.{On as OnG, Refused as RefusedG}
+use Rattle.members.specs.Lists.{Taken, Makes, Tests, Runs, Soles, MembersOf, Sifts, AnswersFlow, AnswersPart, AnswersGrown, any_of_kind, of_kind, sift, first_of}
+use Rattle.simplify.specs.Asked.{Spares, negated, takes}
+use Rattle.simplify.proofs.Asking.{AnyBeside, denied}
 use Rattle.simplify.specs.Intersections.{Simplifies, SimplifiesInto, SimplifiesAll}
-use Rattle.simplify.specs.declared.beside.Sieve.TheVariants.{Spared}
-use Rattle.simplify.specs.declared.beside.MemberTest.TheVariants.{Taken as TakenT}
-use Rattle.members.proofs.Gathered.{few_at, few_below, gathered_few, refuses, wraps_union}
-use Rattle.members.proofs.Partway.{Loops, Partway, partway_start, partway_more, partway_no, partway_done}
+use Rattle.members.proofs.Gathered.{few_at, few_below, gathered_few, wraps_union}
+use Rattle.members.proofs.Partway.{Loops, Partway, partway_more, partway_no, partway_done}
 use Rattle.simplify.proofs.Cancelled.{inners_kept}
 use Rattle.cells.specs.Placed.{Under}
 
 -- `spared`
-pub spares_is : {w ms : List ℕ} {n x : ℕ} {m r : Members} → MembersOf w x m → Sifts (sieve Spared) w ms n m r → Spares w ms n x r
+pub spares_is : {w : List ℕ} {x : ℕ} {g m r : Members} → MembersOf w x m → Sifts (denied negated) w g.at g.count m r → Spares w g x r
 spares_is a g = record { is = λ h t lt. g.is h t (a.is h lt) }
 
 -- `simplified`
 abbrev simple : List ℕ → State → ℕ → Bool → Out (List ℕ)
 simple negs st x b = (if b (λ _. sole Union (spared st.nodes negs x)) (λ _. give (x ∷ []))) st
 
-module _ {w ms : List ℕ} {q : Pass} {n x : ℕ} {b : Bool} (union : Is w 5 x b) where
-  pub simplified_other : not b ≡ true → Simplifies w q ms n x w (One x q)
-  simplified_other e =
-      record {
-        is = λ {st} {xs} on t lt.
-            record {
-              after = st;
-              is = ap (simple (negated_inners st.nodes xs) st x) (sym (union.is on.arena lt) ∙ not-true b e);
-              stands = on;
-              below = (lt, tt);
-            };
-      }
-
-  pub simplified_sole : {m : Members} {w' : List ℕ} {r : AtMostOne} → not b ≡ false → Spares w ms n x m → Soles 5 w q m w' r → Simplifies w q ms n x w' r
-  simplified_sole {m} {w'} {r} e some g =
+module _ {w : List ℕ} {g : Members} {q : Pass} {x : ℕ} {b : Bool} (union : Is w 5 x b) where
+  pub simplified_sole : {m : Members} {w' : List ℕ} {r : AtMostOne} → not b ≡ false → Spares w g x m → Soles 5 w q m w' r → Simplifies w q g x w' r
+  simplified_sole {m} {w'} {r} e some sole =
       record {
         is = λ {st} {xs} on t lt.
             let rest = spared st.nodes (negated_inners st.nodes xs) x in
             subst (λ (o : Out (List ℕ)). AnswersPart o w' r)
             (sym (ap (simple (negated_inners st.nodes xs) st x) (sym (union.is on.arena lt) ∙ not-false b e)))
-            (g.is wraps_union on (subst (λ (k : ℕ). Taken m rest k) on.arena.count (some.is on.arena t lt)));
-      }
-
-pub simplified_into : {w ms w' out out' : List ℕ} {q : Pass} {n x k : ℕ} {p : AtMostOne} {r : GrownBy} → Simplifies w q ms n x w' p → Grows out k p out' r
-    → SimplifiesInto w q ms n x out k w' out' r
-simplified_into {w' = w'} {x = x} c g =
-    record { is = λ {st} {xs} {got} on t lt a le. g.is (simplify_one (negated_inners st.nodes xs) x st) w' (c.is on t lt) a le }
-
--- `takes_some`
-module _ {w ms : List ℕ} {n x : ℕ} {b : Bool} (union : Is w 5 x b) where
-  pub takes_not : not b ≡ true → Beside takes w ms n x false
-  takes_not e =
-      record {
-        is = λ {q} {ns} {xs} h t lt.
-            sym (ap (λ (v : Bool). both v (λ _. ltb (length (spared ns (negated_inners ns xs) x)) (length (members_at ns x)))) (sym (union.is h lt) ∙ not-true b e));
-      }
-
-  pub takes_fewer : {m : Members} {c : ℕ} {r : Bool} → not b ≡ false → Spares w ms n x m → Count w x c → r ≡ ltb m.count c → Beside takes w ms n x r
-  takes_fewer {m} {c} e some size f =
-      record {
-        is = λ {q} {ns} {xs} h t lt.
-            f ∙ ap₂ ltb (some.is h t lt).list.count (size.is h lt)
-            ∙ sym (ap (λ (v : Bool). both v (λ _. ltb (length (spared ns (negated_inners ns xs) x)) (length (members_at ns x)))) (sym (union.is h lt) ∙ not-false b e));
+            (sole.is wraps_union on (subst (λ (k : ℕ). Taken m rest k) on.arena.count (some.is on.arena t lt)));
       }
 
 -- what the negations hold stays the same
@@ -101,49 +64,40 @@ simple_loops negs =
       keeps = λ x st. keeps_if (is st.nodes 5 x) _ _ (keeps_union (spared st.nodes negs x)) (keeps_give (x ∷ [])) st;
     }
 
-pub record Simplifying (w₀ : List ℕ) (q₀ : Pass) (gs : List ℕ) (c : ℕ) (ms : List ℕ) (n : ℕ) (w : List ℕ) (q : Pass) (out : List ℕ) (k i : ℕ) : Type 0 where
-  pub few : i ≤ n
-  pub is : {st : State} {xs ys : List ℕ} → Stands st w₀ q₀ → Taken (first_of c gs) ys (length st.nodes) → Taken (first_of n ms) xs q₀.nodes
+pub record Simplifying (w₀ : List ℕ) (q₀ : Pass) (g m : Members) (w : List ℕ) (q : Pass) (out : List ℕ) (k i : ℕ) : Type 0 where
+  pub few : i ≤ m.count
+  pub is : {st : State} {xs ys : List ℕ} → Stands st w₀ q₀ → Taken g ys (length st.nodes) → Taken m xs q₀.nodes
       → Partway (simplify_each (negated_inners st.nodes ys)) xs st w q out k i
 
-module _ {w₀ gs ms : List ℕ} {q₀ : Pass} {c n : ℕ} where
-  pub simplifying_start : Simplifying w₀ q₀ gs c ms n w₀ q₀ (replicate most_members 0) 0 0
-  simplifying_start = record { few = omega arith; is = λ on s t. partway_start on }
-
-  module _ {w out : List ℕ} {q : Pass} {k i : ℕ} (inv : Simplifying w₀ q₀ gs c ms n w q out k i) where
-    module _ {w' out' : List ℕ} {x : ℕ} {r : GrownBy} (lt : i < n) (here : x ≡ cell ms i) (one : SimplifiesInto w q gs c x out k w' out' r) where
+module _ {w₀ : List ℕ} {g m : Members} {q₀ : Pass} where
+  module _ {w out : List ℕ} {q : Pass} {k i : ℕ} (inv : Simplifying w₀ q₀ g m w q out k i) where
+    module _ {w' out' : List ℕ} {x : ℕ} (lt : i < m.count) (here : x ≡ cell m.at i) where
       -- what the call gives for the member
-      called : {st : State} {xs ys : List ℕ} {g : GrownBy} → r ≡ g
-          → (on : Stands st w₀ q₀) (s : Taken (first_of c gs) ys (length st.nodes)) (t : Taken (first_of n ms) xs q₀.nodes)
-          → AnswersGrown (simplify_one (negated_inners st.nodes ys) (get_or xs i 0) (inv.is on s t).now) w' (inv.is on s t).got out' g
-      called {st} {xs} {ys} {g} e on s t =
+      called : {r : GrownBy} → SimplifiesInto w q g x out k w' out' r
+          → {st : State} {xs ys : List ℕ} (on : Stands st w₀ q₀) (s : Taken g ys (length st.nodes)) (t : Taken m xs q₀.nodes)
+          → AnswersGrown (simplify_one (negated_inners st.nodes ys) (get_or xs i 0) (inv.is on s t).now) w' (inv.is on s t).got out' r
+      called {r} one {st} {xs} {ys} on s t =
           let p = inv.is on s t in
           let u : Under (length st.nodes) xs = subst (λ (j : ℕ). Under j xs) (sym on.arena.count) t.below in
           let low = few_below (record { list = t.list; below = later_under xs p.later u }) here lt in
-          subst (λ (y : ℕ). AnswersGrown (simplify_one (negated_inners st.nodes ys) y p.now) w' p.got out' g) (few_at t.list here lt)
-          (subst (λ (g : GrownBy). AnswersGrown (simplify_one (negated_inners st.nodes ys) x p.now) w' p.got out' g) e
+          subst (λ (y : ℕ). AnswersGrown (simplify_one (negated_inners st.nodes ys) y p.now) w' p.got out' r) (few_at t.list here lt)
           (subst (λ (l : List ℕ). AnswersGrown (simplify_one l x p.now) w' p.got out' r) (inners_stay p.later ys s.below)
           (one.is p.stands (record { list = s.list; below = later_under ys p.later s.below }) low p.gathered
-          (omega (arith, p.few, t.list.count, t.list.few)))))
+          (omega (arith, p.few, t.list.count, t.list.few))))
 
-      pub simplifying_more : {k' : ℕ} {q' : Pass} → r ≡ OnG k' q' → Simplifying w₀ q₀ gs c ms n w' q' out' k' (i + 1)
-      simplifying_more e =
+      pub simplifying_more : {k' : ℕ} {q' : Pass} → SimplifiesInto w q g x out k w' out' (OnG k' q') → Simplifying w₀ q₀ g m w' q' out' k' (i + 1)
+      simplifying_more one =
           record {
             few = omega arith;
             is = λ {st} {xs} {ys} on s t.
-                partway_more (simple_loops (negated_inners st.nodes ys)) (inv.is on s t) (omega (arith, t.list.count)) (called e on s t);
+                partway_more (simple_loops (negated_inners st.nodes ys)) (inv.is on s t) (omega (arith, t.list.count)) (called one on s t);
           }
 
-      pub simplifying_refused : {why : ℕ} {l : Listed} → r ≡ RefusedG why → Refuses why l → SimplifiesAll w₀ q₀ gs c (first_of n ms) w' l
-      simplifying_refused e f =
-          record {
-            is = λ {st} {xs} {ys} on s t.
-                let negs = negated_inners st.nodes ys in
-                refuses (simplify_each negs xs st) w' f
-                (partway_no (simple_loops negs) (inv.is on s t) (omega (arith, t.list.count)) (called e on s t));
-          }
+      pub simplifying_refused : {why : ℕ} {l : Members} → SimplifiesInto w q g x out k w' out' (RefusedG why) → SimplifiesAll w₀ q₀ g m w' (record { flow = Refused why; members = l })
+      simplifying_refused one =
+          record { is = λ {st} {xs} {ys} on s t. partway_no (simple_loops (negated_inners st.nodes ys)) (inv.is on s t) (omega (arith, t.list.count)) (called one on s t) }
 
-    pub simplifying_done : n ≤ i → SimplifiesAll w₀ q₀ gs c (first_of n ms) w (record { flow = On q; members = first_of k out })
+    pub simplifying_done : m.count ≤ i → SimplifiesAll w₀ q₀ g m w (record { flow = On q; members = first_of k out })
     simplifying_done le =
         record {
           is = λ {st} {xs} {ys} on s t.
@@ -233,7 +187,7 @@ module _ (functor : ℕ) {w : List ℕ} {q : Pass} {m : Members} {a : Bool} (neg
         }
 
     module _ {gs : Members} {c : Bool} {w' : List ℕ} {l : Listed} (f : not b ≡ false) (gathered : Makes (sift (of_kind 8 true)) w m gs)
-        (taken : AnyBeside (member_test TakenT) w m.at m.count gs.at gs.count c) (all : SimplifiesAll w q gs.at gs.count m w' l) where
+        (taken : AnyBeside takes w m gs c) (all : SimplifiesAll w q gs m w' l) where
       -- by the Negs alone, and so by all members
       changed : Tests changes w m c
       changed = record { is = λ {q} {ns} {xs} h t. taken.is h t (gathered.is h t) ∙ ap (λ (l : List ℕ). any (takes_some ns l) xs) (inners_kept ns xs) }
@@ -257,6 +211,15 @@ module _ (functor : ℕ) {w : List ℕ} {q : Pass} {m : Members} {a : Bool} (neg
           record {
             is = λ {st} {xs} on t.
                 subst (λ (o : Out (List ℕ)). AnswersFlow o w' l.members l.flow) (bind_none (simplify_all xs st) ∙ sym (each_way on t (not-true c g))) (each.is on t);
+          }
+
+      pub simplify_refused : {why : ℕ} {r : Members} → l.flow ≡ Refused why → Runs (simplify_union_neg_intersection functor) w q m w' (record { flow = Refused why; members = r })
+      simplify_refused z =
+          record {
+            is = λ {st} {xs} on t.
+                each_way on t refl
+                ∙ ap (λ (o : Out (List ℕ)). bind o (λ ys. if c (λ _. tidied functor ys) (λ _. give ys)))
+                (subst (λ (v : Flow). AnswersFlow (simplify_all xs st) w' l.members v) z (each.is on t));
           }
 
       module _ {some r : Members} (g : not c ≡ false) (left : Makes (sift (of_kind 9 false)) w' l.members some)

@@ -10,15 +10,15 @@ use Rattle.lang_ty.specs.declared.arena.Pass.{Pass}
 use Rattle.lang_ty.specs.Nodes.{Arena}
 use Rattle.lang_ty.specs.Sets.{SetAt}
 use Rattle.members.specs.declared.lists.Members.{Members}
-use Rattle.members.specs.Lists.{Taken, first_of}
+use Rattle.members.specs.Lists.{Taken}
 use Rattle.simplify.specs.OwnKeys.{Idle}
 
 -- x is one half of a pair: a positive that a Neg among ys holds, or the Neg of a positive among xs
 abbrev pub halved : List Node → List ℕ → List ℕ → ℕ → Bool
 halved ns xs ys x = cancelled ns (filter (is_positive ns) xs) (negated_inners ns ys) x
 
-pub record Cancels (w ms : List ℕ) (n : ℕ) (gs : List ℕ) (c x : ℕ) (r : Bool) : Type 0 where
-  pub is : {q : Pass} {ns : List Node} {xs ys : List ℕ} → Arena w q ns → Taken (first_of n ms) xs (length ns) → Taken (first_of c gs) ys (length ns) → x < length ns
+pub record Cancels (w : List ℕ) (m g : Members) (x : ℕ) (r : Bool) : Type 0 where
+  pub is : {q : Pass} {ns : List Node} {xs ys : List ℕ} → Arena w q ns → Taken m xs (length ns) → Taken g ys (length ns) → x < length ns
       → r ≡ halved ns xs ys x
 
 -- the set at a has no dyn, or that of the one at b
@@ -44,8 +44,8 @@ pub record Takes (w ms : List ℕ) (i x j : ℕ) (gone : List ℕ) (r : Bool) : 
       → Marked gone ps → j < most_members → r ≡ both (not (eqb i j || contains ps j)) (λ _. subsumes_node t (as_attr (node_at ns (cell ms j))))
 
 -- the places that the member at place i takes up are marked too
-pub record MarksTaken (w ms : List ℕ) (n i : ℕ) (own gone gone' : List ℕ) : Type 0 where
-  pub is : {q : Pass} {ns : List Node} {xs ps : List ℕ} → Arena w q ns → Taken (first_of n ms) xs (length ns) → i < n → Idle ns xs own → Marked gone ps
+pub record MarksTaken (w : List ℕ) (m : Members) (i : ℕ) (own gone gone' : List ℕ) : Type 0 where
+  pub is : {q : Pass} {ns : List Node} {xs ps : List ℕ} → Arena w q ns → Taken m xs (length ns) → i < m.count → Idle ns xs own → Marked gone ps
       → Marked gone' (taken_by_node ns xs ps i (as_attr (node_at ns (get_or xs i 0))))
 
 -- the members whose places are not marked

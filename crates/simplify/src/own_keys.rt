@@ -4,18 +4,17 @@ ghost use Rattle.simplify.specs.OwnKeys.{CountsKeys, CountsMember, CountsMembers
 use cells::{add, at, set};
 use lang_ty::arena::OutputTy;
 use lang_ty::{arena, attrset, disjoint};
+use members::lists::Members;
 
 // One more in counts for each key of the set at a.
 fn count_keys(words: &[u32], a: u32, counts: &mut [u32])
     ensures { CountsKeys words.now a counts.old counts.new }
 {
     let n = attrset::fields(words, a);
-    let mut i = 0;
-    while i < n {
+    for i in 0..n {
         let k = attrset::key(words, a, i);
         let c = add(at(counts, k), 1);
         set(counts, k, c);
-        i += 1;
     }
 }
 
@@ -23,44 +22,31 @@ fn count_keys(words: &[u32], a: u32, counts: &mut [u32])
 fn count_member(arena: &[u32], x: u32, counts: &mut [u32])
     ensures { CountsMember arena.now x counts.old counts.new }
 {
-    if !arena::is(arena, OutputTy::ATTR_SET, x) {
+    if !arena::is(arena, OutputTy::AttrSet, x) {
         return;
     }
     count_keys(arena, disjoint::set_place(arena, x), counts);
 }
 
-// How many of the first n cells of s are sets with a key, for each key.
-fn count_members(arena: &[u32], s: &[u32], n: u32, counts: &mut [u32])
-    ensures { CountsMembers arena.now s.now n counts.old counts.new }
+// How many of the members are sets with a key, for each key.
+fn count_members(arena: &[u32], m: &Members, counts: &mut [u32])
+    ensures { CountsMembers arena.now m.now counts.old counts.new }
 {
-    let mut i = 0;
-    while i < n {
-        count_member(arena, at(s, i), counts);
-        i += 1;
+    for i in 0..m.count {
+        count_member(arena, at(&m.at, i), counts);
     }
 }
 
 // Node x is a set without optional keys, and one of its keys was counted once. Where there are optional keys it is not asked which.
-#[tactic(auto, using(crate::proofs::OwnKeys::own_yes))]
 fn has_own_key(arena: &[u32], counts: &[u32], x: u32) -> bool
     ensures { OwnKey arena.now counts.now x result }
 {
-    if !arena::is(arena, OutputTy::ATTR_SET, x) {
+    if !arena::is(arena, OutputTy::AttrSet, x) {
         return false;
     }
     let a = disjoint::set_place(arena, x);
-    if attrset::optionals(arena, a) != 0 {
-        return false;
-    }
     let n = attrset::fields(arena, a);
-    let mut i = 0;
-    while i < n {
-        if at(counts, attrset::key(arena, a, i)) == 1 {
-            return true;
-        }
-        i += 1;
-    }
-    false
+    attrset::optionals(arena, a) == 0 && (0..n).any(|i| at(counts, attrset::key(arena, a, i)) == 1)
 }
 
 // Marks place i in own if x, the member there, is seen to have a key that no other set of the list has.
@@ -73,17 +59,15 @@ fn mark_if_own(arena: &[u32], counts: &[u32], x: u32, i: u32, own: &mut [u32])
 }
 
 // Marks in own the places of sets that have a key of their own. In a short list none is looked for: the counts alone are 4 KB to clear.
-pub fn mark_own(arena: &[u32], s: &[u32], n: u32, own: &mut [u32])
-    ensures { MarksOwn arena.now s.now n own.old own.new }
+pub fn mark_own(arena: &[u32], m: &Members, own: &mut [u32])
+    ensures { MarksOwn arena.now m.now own.old own.new }
 {
-    if n < 16 {
+    if m.count < 16 {
         return;
     }
     let mut counts = [0u32; 1024];
-    count_members(arena, s, n, &mut counts);
-    let mut i = 0;
-    while i < n {
-        mark_if_own(arena, &counts, at(s, i), i, own);
-        i += 1;
+    count_members(arena, m, &mut counts);
+    for i in 0..m.count {
+        mark_if_own(arena, &counts, at(&m.at, i), i, own);
     }
 }

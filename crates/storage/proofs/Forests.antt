@@ -12,21 +12,13 @@ use lib.Seq.{get_or-set_same, get_or-set_other, set-get_or}
 use lib.Dec.{eqb, ltb}
 use borrow.Author.Tests.{ltb-true, ltb-false, lt-ltb, le-ltb, eqb-true, eqb-false, eq-eqb, ne_eqb}
 use Rattle.cells.specs.Part.{cell, part, run, if}
-use Rattle.cells.proofs.Parts.{run_ext, run_next, run_none, run_whole}
+use Rattle.cells.proofs.Parts.{run_ext, run_next}
 use Rattle.cells.proofs.Holding.{holds_from}
 use Rattle.rules.specs.Plain.{flag, both}
 use Rattle.rules.specs.Table.{Pair, join_classes, join_pair, join_pairs, rep_in, upward}
 use Rattle.laws.proofs.Joining.{upward_length}
 use Rattle.laws.proofs.Containing.{flag_few}
-use Rattle.storage.specs.Equivs.{pair_at, Rep, Inside, Stays, roots, Forest, Finds, Unites, Alone, Settles, pairs_in, Behind, UnitesAll, Represents}
-
--- `rep`
-module _ {reps : List ℕ} {count id : ℕ} where
-  pub rep_in_lem : {r : ℕ} → id < count → r ≡ cell reps id → Rep reps count id r
-  rep_in_lem h e = record { is = e ∙ ap (λ (b : Bool). if b (λ _. cell reps id) (λ _. id)) (sym (lt-ltb id count h)) }
-
-  pub rep_out : count ≤ id → Rep reps count id id
-  rep_out h = record { is = ap (λ (b : Bool). if b (λ _. cell reps id) (λ _. id)) (sym (le-ltb id count h)) }
+use Rattle.storage.specs.Equivs.{pair_at, Inside, Stays, roots, Forest, Finds, Unites, Alone, Settles, pairs_in, Behind, UnitesAll, Represents}
 
 -- a cell after one was set: what holds of both values, and what holds of each at its place
 set_any : (l : List ℕ) (j v i : ℕ) (P : ℕ → Type 0) → P v → P (cell l i) → P (cell (set l j v) i)
@@ -332,20 +324,6 @@ module _ (reps : List ℕ) (a b : ℕ) where
   pair_second lt le = ap₂ pair_by (lt-ltb a (length reps) lt) (le-ltb b (length reps) le)
 
 module _ {parent : List ℕ} {count a b : ℕ} where
-  pub unites_first : count ≤ a → Unites parent count a b parent
-  unites_first le =
-      record {
-        stays = stays_none;
-        is = λ {reps} f. subst (λ (rs : List ℕ). Forest parent count rs) (sym (pair_first reps a b (omega (arith, f.whole)))) f;
-      }
-
-  pub unites_second : a < count → count ≤ b → Unites parent count a b parent
-  unites_second lt le =
-      record {
-        stays = stays_none;
-        is = λ {reps} f. subst (λ (rs : List ℕ). Forest parent count rs) (sym (pair_second reps a b (omega (arith, f.whole)) (omega (arith, f.whole)))) f;
-      }
-
   pub unites_both : {p₁ p₂ p₃ : List ℕ} {ra rb : ℕ} → a < count → b < count → Finds parent count a p₁ ra → Finds p₁ count b p₂ rb → p₃ ≡ set p₂ ra rb
       → Unites parent count a b p₃
   unites_both {p₁} {p₂} {p₃} {ra} {rb} la lb fa fb put =
@@ -377,26 +355,7 @@ upward_at a (suc n) zero lt = omega arith
 upward_at a (suc n) (suc i) lt = upward_at (suc a) n i (omega arith) ∙ omega arith
 
 module _ {parent₀ : List ℕ} {count : ℕ} where
-  pub lone_start : Lone parent₀ count parent₀ 0
-  lone_start = record { few = omega arith; long = refl; own = λ k lt. absurd (not-suc-le-zero lt); kept = λ k le. refl }
-
   module _ {parent : List ℕ} {i : ℕ} (c : Lone parent₀ count parent i) where
-    lone_next : i < count → Lone parent₀ count (set parent i i) (i + 1)
-    lone_next lt =
-        record {
-          few = omega arith;
-          long = length-set parent i i ∙ c.long;
-          own = λ k lk inside.
-              ⊎_elim
-              (λ (z : k ≡ i). ap (cell (set parent i i)) z ∙ get_or-set_same parent i i 0 (omega (arith, c.long)) ∙ sym z)
-              (λ (z : k < i). get_or-set_other parent i k i 0 (λ y. omega arith) ∙ c.own k z inside)
-              (eq-or-lt_of_le (omega arith));
-          kept = λ k le. get_or-set_other parent i k i 0 (λ y. omega arith) ∙ c.kept k (omega arith);
-        }
-
-    pub lone_more : {parent' : List ℕ} → i < count → parent' ≡ set parent i i → Lone parent₀ count parent' (i + 1)
-    lone_more lt put = subst (λ (l : List ℕ). Lone parent₀ count l (i + 1)) (sym put) (lone_next lt)
-
     module _ (le : count ≤ i) where
       lone_inside : (k : ℕ) → k < count → cell parent k < count
       lone_inside k lt = turn (ltb k (length parent)) refl where
@@ -440,9 +399,6 @@ pub record Settling (parent₀ : List ℕ) (count : ℕ) (parent : List ℕ) (i 
   pub is : {reps : List ℕ} → Forest parent₀ count reps → Settled count parent reps i
 
 module _ {parent₀ : List ℕ} {count : ℕ} where
-  pub settling_start : Settling parent₀ count parent₀ 0
-  settling_start = record { few = omega arith; stays = stays_none; is = λ f. record { forest = f; is = λ k lt. absurd (not-suc-le-zero lt) } }
-
   module _ {parent : List ℕ} {i : ℕ} (c : Settling parent₀ count parent i) where
     pub settling_more : {p₁ p₂ : List ℕ} {r : ℕ} → i < count → Finds parent count i p₁ r → p₂ ≡ set p₁ i r → Settling parent₀ count p₂ (i + 1)
     settling_more {p₁} {p₂} {r} lt find put =
@@ -496,14 +452,6 @@ pair_kept {a} {b} {count} {first} s h i lt =
     ap₂ {C = Pair} (λ (x y : ℕ). record { first = x; second = y }) (word 1) (word 2)
 
 module _ {table₀ : List ℕ} {count first pairs : ℕ} where
-  pub uniting_start : Uniting table₀ count first pairs table₀ 0
-  uniting_start =
-      record {
-        few = omega arith;
-        stays = stays_none;
-        is = λ {reps} f b. record { reached = reps; forest = f; left = ap (join_pairs reps) (run_whole (pair_at table₀) first pairs) };
-      }
-
   module _ {table : List ℕ} {i : ℕ} (c : Uniting table₀ count first pairs table i) where
     pub uniting_more : {table' : List ℕ} {p a p₁ p₂ x y : ℕ} → i < pairs → p ≡ first + i → a ≡ cell table p → p₁ ≡ a + 1 → x ≡ cell table p₁ → p₂ ≡ a + 2
         → y ≡ cell table p₂ → Unites table count x y table' → Uniting table₀ count first pairs table' (i + 1)
@@ -522,16 +470,6 @@ module _ {table₀ : List ℕ} {count first pairs : ℕ} where
                 forest = subst (λ (l : Pair). Forest table' count (join_pair v.reached l)) (pair ∙ pair_kept s b i lt) (u.is v.forest);
                 left = sym (ap (join_pairs v.reached) (run_next (pair_at table₀) first pairs i lt)) ∙ v.left;
               };
-        }
-
-    pub uniting_done : pairs ≤ i → UnitesAll table₀ count first pairs table
-    uniting_done le =
-        record {
-          stays = c.stays;
-          is = λ {reps} f b.
-              let v = c.is f b in
-              subst (λ (rs : List ℕ). Forest table count rs)
-              (sym (ap (join_pairs v.reached) (run_none (pair_at table₀) first pairs i le)) ∙ v.left) v.forest;
         }
 
 -- `from_storage`

@@ -6,7 +6,7 @@ use native.Mathlib.Omega.{arith}
 use mathlib.Core.List.{List, [], ◌∷◌}
 use lib.ListN.{length, length-append}
 use lib.Dec.{eqb}
-use borrow.Author.Tests.{eq-eqb, ne_eqb}
+use borrow.Author.Tests.{eq-eqb}
 use Rattle.cells.specs.Part.{cell, if}
 use Rattle.cells.specs.Sum.{Sum}
 use Rattle.layout.specs.Layout.{marks_at}
@@ -17,17 +17,15 @@ use Rattle.rules.specs.Canonicalizer.{Pass, Reader, Visit, variable, is_variable
 use Rattle.rules.specs.declared.Polarity.{Polarity}
 use Rattle.rules.specs.declared.Polarity.TheVariants.{Positive, Negative}
 use Rattle.storage.specs.declared.given.Canon.{Canon}
-use Rattle.storage.specs.declared.held.Which.TheVariants.{All, Concrete, OfOthers, Atoms}
-use Rattle.storage.specs.declared.held.Own.TheVariants.{Variable as OwnVariable, Bounds}
 use Rattle.storage.specs.Passes.{ListAt, BoundsAt, Reads, Knows}
 use Rattle.storage.specs.Equivs.{Rep}
 use Rattle.storage.specs.Vars.{IsPreserved}
-use Rattle.storage.specs.Entries.{Row, Uppers}
-use Rattle.storage.specs.Helds.{HoldsBounds, BeginsList, concretes, own_rule, OwnList, OwnBounds}
+use Rattle.storage.specs.Entries.{Row, IsVar, IsAtom, Uppers}
+use Rattle.storage.specs.Helds.{HoldsBounds, BeginsList, concretes, own_rule, OwnList, Variable as OwnVariable, Bounds, OwnBounds}
 use Rattle.laws.proofs.Filtering.{filter_length, filter_under, under_front, under_back}
 use Rattle.laws.proofs.Filtering.{filter_all}
 use Rattle.storage.proofs.EntryReads.{variable_at, entry_at_row, behind}
-use Rattle.storage.proofs.HeldIds.{held_list, held_none}
+use Rattle.storage.proofs.HeldIds.{held_list}
 use Rattle.cells.specs.Placed.{Under}
 
 -- the list that a fallback begins
@@ -69,9 +67,10 @@ upper_at : {table l u : List ℕ} {v r : ℕ} → Uppers table v r → BoundsAt 
 upper_at {table} {u = u} up b = subst (λ (j : ℕ). ListAt table j u) (sym (up.is b.lowers)) b.uppers
 
 module _ {table : List ℕ} {c : Canon} {work : List ℕ} {h id : ℕ} {pol : Polarity} where
-  pub begin_upper : {work' : List ℕ} {a v u r : ℕ} → pol ≡ Positive → Row table c id a → Sum a 1 v → Uppers table v u → HoldsBounds table c work h u Atoms work' r
+  pub begin_upper : {work' : List ℕ} {a v u r : ℕ} {answers : ℕ → Bool → Type 0} → pol ≡ Positive → Row table c id a → Sum a 1 v → Uppers table v u → HoldsBounds answers table work h u work' r
+      → ((b : ℕ) (x : Bool) → answers b x → IsAtom table c b x)
       → BeginsList table c work h id pol work' r
-  begin_upper e row one up hold =
+  begin_upper e row one up hold atom =
       record {
         kept = hold.kept;
         is = λ {p} {t} k lt isv room.
@@ -79,38 +78,15 @@ module _ {table : List ℕ} {c : Canon} {work : List ℕ} {h id : ℕ} {pol : Po
             let size = w.size in
             held_list
             (sym (ap (begin_list p t id) e ∙ ap (λ (x : rules.Entry). filter (λ (b : ℕ). is_atom t (t b)) (uppers x)) w.is))
-            (hold.is k (upper_at up w.bounds) w.under.1 (omega arith));
+            (hold.is (λ b. is_atom t (t b)) (λ b x lt agree. (atom b x agree).is k.reads lt) (upper_at up w.bounds) w.under.1 (omega arith));
       }
 
   module _ {x y : ℕ} (e : pol ≡ Negative) (at : y ≡ marks_at + id) (own : x ≡ cell table y) where
-    pub begin_marked : (x ≡ 0 → ⊥) → BeginsList table c work h id pol work 0
-    begin_marked n =
-        record {
-          kept = λ k lt. refl;
-          is = λ {p} {t} k lt isv room.
-              held_list
-              (sym (ap (begin_list p t id) e
-              ∙ ap (λ (b : Bool). if (b || p.marked (p.rep id)) (λ _. []) (λ _. lowers (t id))) (own_mark k lt at own ∙ ap not (ne_eqb x 0 n))))
-              (held_none work h);
-        }
-
     module _ {q x' y' : ℕ} (none : x ≡ 0) (rep : Rep table c.count id q) (at' : y' ≡ marks_at + q) (reps : x' ≡ cell table y') where
-      pub begin_rep : (x' ≡ 0 → ⊥) → BeginsList table c work h id pol work 0
-      begin_rep n =
-          record {
-            kept = λ k lt. refl;
-            is = λ {p} {t} k lt isv room.
-                held_list
-                (sym (ap (begin_list p t id) e
-                ∙ ap₂ (λ (a b : Bool). if (a || b) (λ _. []) (λ _. lowers (t id)))
-                (own_mark k lt at own ∙ ap not (eq-eqb x 0 none))
-                (reps_mark k lt rep at' reps ∙ ap not (ne_eqb x' 0 n))))
-                (held_none work h);
-          }
-
-      pub begin_lower : {work' : List ℕ} {a v r : ℕ} → x' ≡ 0 → Row table c id a → Sum a 1 v → HoldsBounds table c work h v All work' r
+      pub begin_lower : {work' : List ℕ} {a v r : ℕ} {answers : ℕ → Bool → Type 0} → x' ≡ 0 → Row table c id a → Sum a 1 v → HoldsBounds answers table work h v work' r
+          → ((b : ℕ) (x : Bool) → answers b x → x ≡ true)
           → BeginsList table c work h id pol work' r
-      begin_lower n row one hold =
+      begin_lower n row one hold all =
           record {
             kept = hold.kept;
             is = λ {p} {t} k lt isv room.
@@ -123,15 +99,8 @@ module _ {table : List ℕ} {c : Canon} {work : List ℕ} {h id : ℕ} {pol : Po
                 (own_mark k lt at own ∙ ap not (eq-eqb x 0 none))
                 (reps_mark k lt rep at' reps ∙ ap not (eq-eqb x' 0 n))
                 ∙ ap lowers w.is))
-                (hold.is k w.bounds.lowers w.under.0 (omega arith));
+                (hold.is (λ _. true) (λ b x lt agree. all b x agree) w.bounds.lowers w.under.0 (omega arith));
           }
-
--- the bounds of a variable in a place
-pub own_list_lower : {table : List ℕ} {v : ℕ} {pol : Polarity} → pol ≡ Positive → OwnList table v pol v
-own_list_lower {table} {v} e = record { is = λ {l} {u} b. subst (λ (q : Polarity). ListAt table v (bounds_of q l u)) (sym e) b.lowers }
-
-pub own_list_upper : {table : List ℕ} {v r : ℕ} {pol : Polarity} → pol ≡ Negative → Uppers table v r → OwnList table v pol r
-own_list_upper {table} {r = r} e up = record { is = λ {l} {u} b. subst (λ (q : Polarity). ListAt table r (bounds_of q l u)) (sym e) (upper_at up b) }
 
 under_of : (pol : Polarity) (k : ℕ) (l u : List ℕ) → Under k l → Under k u → Under k (bounds_of pol l u)
 under_of Positive k l u a b = a
@@ -163,8 +132,12 @@ module _ (p : Pass) (t : Reader) (v : Visit) (id : ℕ) (pol : Polarity) (bs : L
   rule_others [] n e = ap (λ (b : Bool). if b (λ _. variable p id) (λ _. expansion p t v id others pol)) (sym e)
   rule_others (x ∷ cs) n e = absurd (omega arith)
 
-module _ {table : List ℕ} {c : Canon} {work : List ℕ} {h id v : ℕ} {pol : Polarity} {l n : ℕ} {work' : List ℕ} {kept : Bool}
-    (ol : OwnList table v pol l) (pre : IsPreserved table c id kept) (hold : HoldsBounds table c work h l Concrete work' n) where
+module _ {table : List ℕ} {c : Canon} {work : List ℕ} {h id v : ℕ} {pol : Polarity} {l n : ℕ} {work' : List ℕ} {kept : Bool} {answers : ℕ → Bool → Type 0}
+    (ol : OwnList table v pol l) (pre : IsPreserved table c id kept) (hold : HoldsBounds answers table work h l work' n)
+    (concrete : (b : ℕ) (x : Bool) → answers b x → (v : Bool) × IsVar table c b v × x ≡ not v) where
+  as_concrete : {p : Pass} {t : Reader} → Knows table c p t → (b : ℕ) (x : Bool) → b < c.count → answers b x → x ≡ not (is_variable (t b))
+  as_concrete k b x lt agree = let (v, is, e) = concrete b x agree in e ∙ ap not (is.is k.reads lt)
+
   pub own_concrete : (n ≡ 0 → ⊥) → OwnBounds table c work h id v pol work' (Bounds n kept)
   own_concrete some =
       record {
@@ -172,7 +145,7 @@ module _ {table : List ℕ} {c : Canon} {work : List ℕ} {h id v : ℕ} {pol : 
         is = λ {p} {t} {l = lo} {u = up} k lt b ul uu room.
             let bs = bounds_of pol lo up in
             let under = under_of pol c.count lo up ul uu in
-            let held = hold.is k (ol.is b) under (omega (arith, bounds_short pol lo up)) in
+            let held = hold.is (λ b. not (is_variable (t b))) (as_concrete k) (ol.is b) under (omega (arith, bounds_short pol lo up)) in
             record {
               list = concretes t bs;
               held = held;
@@ -188,25 +161,27 @@ module _ {table : List ℕ} {c : Canon} {work : List ℕ} {h id v : ℕ} {pol : 
         kept = hold.kept;
         is = λ {p} {t} {l = lo} {u = up} k lt b ul uu room v.
             let bs = bounds_of pol lo up in
-            let held = hold.is k (ol.is b) (under_of pol c.count lo up ul uu) (omega (arith, bounds_short pol lo up)) in
+            let held = hold.is (λ b. not (is_variable (t b))) (as_concrete k) (ol.is b) (under_of pol c.count lo up ul uu) (omega (arith, bounds_short pol lo up)) in
             rule_variable p t v id pol bs (concretes t bs) (sym held.count ∙ none) (sym e ∙ pre.is k lt);
       }
 
-  pub own_others : {work'' : List ℕ} {q m : ℕ} → n ≡ 0 → kept ≡ false → Rep table c.count id q → length work' ≡ length work
-      → HoldsBounds table c work' h l (OfOthers q) work'' m
+  pub own_others : {work'' : List ℕ} {q m : ℕ} {again : ℕ → Bool → Type 0} → n ≡ 0 → kept ≡ false → Rep table c.count id q → length work' ≡ length work
+      → HoldsBounds again table work' h l work'' m
+      → ((b : ℕ) (x : Bool) → again b x → (j : ℕ) × Rep table c.count b j × x ≡ not (eqb j q))
       → OwnBounds table c work h id v pol work'' (Bounds m false)
-  own_others {q = q} none e rep same rest =
+  own_others {q = q} none e rep same rest other =
       record {
         kept = λ j lt. rest.kept j lt ∙ hold.kept j lt;
         is = λ {p} {t} {l = lo} {u = up} k lt b ul uu room.
             let bs = bounds_of pol lo up in
             let under = under_of pol c.count lo up ul uu in
             let few = bounds_short pol lo up in
-            let held = hold.is k (ol.is b) under (omega arith) in
+            let held = hold.is (λ b. not (is_variable (t b))) (as_concrete k) (ol.is b) under (omega arith) in
             let z : q ≡ p.rep id = rep.is ∙ sym (k.reps.is id) in
             record {
               list = filter (λ (x : ℕ). not (eqb (p.rep x) (p.rep id))) bs;
-              held = held_list (ap (λ (i : ℕ). filter (λ (x : ℕ). not (eqb (p.rep x) i)) bs) z) (rest.is k (ol.is b) under (omega arith));
+              held = held_list (ap (λ (i : ℕ). filter (λ (x : ℕ). not (eqb (p.rep x) i)) bs) z)
+                  (rest.is (λ b. not (eqb (p.rep b) q)) (λ b x lt agree. let (j, r, y) = other b x agree in y ∙ ap (λ (i : ℕ). not (eqb i q)) (r.is ∙ sym (k.reps.is b))) (ol.is b) under (omega arith));
               is = λ v. rule_others p t v id pol bs (concretes t bs) (sym held.count ∙ none) (sym e ∙ pre.is k lt);
               below =
                   subst (λ (j : ℕ). Under j (filter (λ (x : ℕ). not (eqb (p.rep x) (p.rep id))) bs)) (sym k.count)

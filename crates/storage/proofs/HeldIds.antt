@@ -4,10 +4,9 @@ use mathlib.Core.Bool.{Bool, true, false, not}
 use Prim.Native.Nat.{ℕ, suc, ◌+◌, ◌≤◌, ◌<◌}
 use native.Mathlib.Omega.{arith}
 use native.Mathlib.Numerals.{add-one}
-use mathlib.Core.List.{List, [], ◌∷◌, ◌++◌, append-nil}
+use mathlib.Core.List.{List, [], ◌∷◌, ◌++◌}
 use lib.ListN.{length, get_or, take, set, length-set, length-append, length-map, get_or-append}
 use lib.Seq.{get_or-set_same, get_or-set_other, take_all, take-suc, length-take-le, get_or-append-add}
-use lib.Dec.{eqb}
 use denote.Enum.Declared.{tag_of}
 use types.Run.{OneOf, miss}
 use Rattle.cells.specs.Part.{cell}
@@ -17,21 +16,15 @@ use Rattle.cells.proofs.Holding.{holds_none, holds_place, holds_cons, holds_both
 use Rattle.rules.specs.Plain.{filter}
 use Rattle.rules.specs.Table.{Field, Attr, field_types, dyn_ids, attr_kids}
 use Rattle.rules.specs.Table as rules
-use Rattle.rules.specs.Types.{flip}
-use Rattle.rules.specs.Canonicalizer.{Pass, Reader}
 use Rattle.rules.specs.declared.Polarity.{Polarity}
 use Rattle.laws.proofs.Rows.{attr_words_length, few_dyns}
 use Rattle.lang_ty.specs.Sets.{SetAt, Fields, FieldType, Dyns, DynType}
 use Rattle.lang_ty.proofs.Children.{kids_length}
-use Rattle.storage.specs.declared.given.Canon.{Canon}
-use Rattle.storage.specs.declared.held.Which.{Which}
-use Rattle.storage.specs.declared.held.Which.TheVariants.{All, Concrete, OfOthers, Atoms}
 use Rattle.storage.specs.declared.entries.Entry.{Entry}
 use Rattle.storage.specs.declared.entries.Entry.TheVariants.{Variable, Primitive, TyVar, List as ListOf, Lambda, AttrSet, Neg, Named, Inter, Union, Frozen}
-use Rattle.storage.specs.Passes.{ListAt, Knows}
-use Rattle.storage.specs.Equivs.{Rep}
-use Rattle.storage.specs.Entries.{IsVar, IsAtom, ReadAs}
-use Rattle.storage.specs.Helds.{HeldList, only, HoldsIf, wanted, Wanted, HoldsBounds, held_kids, SetChild, HoldsFields, HoldsOne, HoldsTwo, HoldsChildren, first_polarity, FirstPolarity}
+use Rattle.storage.specs.Passes.{ListAt}
+use Rattle.storage.specs.Entries.{ReadAs}
+use Rattle.storage.specs.Helds.{HeldList, only, HoldsIf, HoldsBounds, held_kids, SetChild, HoldsFields, HoldsOne, HoldsTwo, HoldsChildren, first_polarity}
 use Rattle.storage.specs.contracts.entries.Entry.{the_type}
 use Rattle.laws.proofs.Filtering.{filter_length, under_at}
 use Rattle.storage.proofs.Sifted.{filter_more}
@@ -67,10 +60,6 @@ held_slice {xs = xs} {h} {n} e g = subst (λ (w : List ℕ). HeldList w h n xs) 
 held_count : {work xs : List ℕ} {h n r : ℕ} → r ≡ n → HeldList work h n xs → HeldList work h r xs
 held_count e g = record { count = e ∙ g.count; holds = g.holds }
 
-if_none : {work : List ℕ} (h k b : ℕ) (kept : Bool) → not kept ≡ true → HoldsIf work h k b kept work k
-if_none h k b true e = let z : ◌≡◌ {A = ℕ} 0 1 = cc in absurd (omega arith)
-if_none h k b false e = record { others = λ j n. refl; is = λ {xs} g lt few. held_list (sym (append-nil xs)) g }
-
 if_some : {work work' : List ℕ} (h k b : ℕ) {r : ℕ} (kept : Bool) → not kept ≡ false → work' ≡ set work (h + k) b → Sum k 1 r → HoldsIf work h k b kept work' r
 if_some {work} h k b true e f sum =
     record {
@@ -79,73 +68,49 @@ if_some {work} h k b true e f sum =
     }
 if_some h k b false e f sum = let z : ◌≡◌ {A = ℕ} 0 1 = cc in absurd (omega arith)
 
-pub if_not : {work : List ℕ} {h k b : ℕ} {kept : Bool} → not kept ≡ true → HoldsIf work h k b kept work k
-if_not {h = h} {k} {b} {kept} e = if_none h k b kept e
-
 pub if_kept : {work work' : List ℕ} {h k b p r : ℕ} {kept : Bool} → not kept ≡ false → p ≡ h + k → work' ≡ set work p b → Sum k 1 r → HoldsIf work h k b kept work' r
 if_kept {work} {h = h} {k} {b} {kept = kept} e f g sum = if_some h k b kept e (g ∙ ap (λ (j : ℕ). set work j b) f) sum
 
--- which bounds are wanted
-module _ {table : List ℕ} {c : Canon} {which : Which} {b : ℕ} where
-  wanted_by : {r : Bool} (w : Which) → which ≡ w → ((p : Pass) (t : Reader) → Knows table c p t → b < c.count → r ≡ wanted p t w b)
-      → Wanted table c which b r
-  wanted_by w e f = record { is = λ {p} {t} k lt. f p t k lt ∙ sym (ap (λ (x : Which). wanted p t x b) e) }
-
-  pub wanted_all : which ≡ All → Wanted table c which b true
-  wanted_all e = wanted_by All e (λ p t k lt. refl)
-
-  pub wanted_concrete : {v r : Bool} → which ≡ Concrete → IsVar table c b v → r ≡ not v → Wanted table c which b r
-  wanted_concrete e v f = wanted_by Concrete e (λ p t k lt. f ∙ ap not (v.is k.reads lt))
-
-  pub wanted_others : {q s : ℕ} {r : Bool} → which ≡ OfOthers q → Rep table c.count b s → r ≡ not (eqb s q) → Wanted table c which b r
-  wanted_others {q} e s f = wanted_by (OfOthers q) e (λ p t k lt. f ∙ ap (λ (j : ℕ). not (eqb j q)) (s.is ∙ sym (k.reps.is b)))
-
-  pub wanted_atoms : {r : Bool} → which ≡ Atoms → IsAtom table c b r → Wanted table c which b r
-  wanted_atoms e a = wanted_by Atoms e (λ p t k lt. a.is k.reads lt)
-
 -- `hold_bounds` at bound i
-pub record Bounding (table : List ℕ) (c : Canon) (work₀ : List ℕ) (h l : ℕ) (which : Which) (n : ℕ) (work : List ℕ) (k i : ℕ) : Type 0 where
+pub record Bounding (answers : ℕ → Bool → Type 0) (table work₀ : List ℕ) (h l n : ℕ) (work : List ℕ) (k i : ℕ) : Type 0 where
   pub few : i ≤ n
   pub size : n ≡ cell table l
   pub kept : (j : ℕ) → j < h → cell work j ≡ cell work₀ j
-  pub is : {p : Pass} {t : Reader} {bs : List ℕ} → Knows table c p t → ListAt table l bs → Under c.count bs → h + length bs ≤ length work₀
-      → HeldList work h k (filter (wanted p t which) (take i bs))
+  pub is : {bs : List ℕ} {count : ℕ} (f : ℕ → Bool) → ((b : ℕ) (x : Bool) → b < count → answers b x → x ≡ f b) → ListAt table l bs → Under count bs
+      → h + length bs ≤ length work₀ → HeldList work h k (filter f (take i bs))
 
-module _ {table : List ℕ} {c : Canon} {work₀ : List ℕ} {h l : ℕ} {which : Which} {n : ℕ} where
-  pub bounding_start : n ≡ cell table l → Bounding table c work₀ h l which n work₀ 0 0
-  bounding_start e = record { few = omega arith; size = e; kept = λ j lt. refl; is = λ k at under room. held_none work₀ h }
-
-  pub bounding_more : {work work' : List ℕ} {k k' i s q b : ℕ} {w : Bool} → Bounding table c work₀ h l which n work k i → length work ≡ length work₀
-      → i < n → Sum l 1 s → q ≡ s + i → b ≡ cell table q → Wanted table c which b w → HoldsIf work h k b w work' k'
-      → Bounding table c work₀ h l which n work' k' (i + 1)
-  bounding_more {work} {work'} {k} {k'} {i} {s} {q} {b} {w} g same lt one e f want put =
+module _ {answers : ℕ → Bool → Type 0} {table work₀ : List ℕ} {h l n : ℕ} where
+  pub bounding_more : {work work' : List ℕ} {k k' i s q b : ℕ} {x : Bool} → Bounding answers table work₀ h l n work k i → length work ≡ length work₀
+      → i < n → Sum l 1 s → q ≡ s + i → b ≡ cell table q → answers b x → HoldsIf work h k b x work' k'
+      → Bounding answers table work₀ h l n work' k' (i + 1)
+  bounding_more {work} {work'} {k} {k'} {i} {s} {q} {b} {x} g same lt one e read want put =
       record {
         few = omega arith;
         size = g.size;
         kept = λ j less. put.others j (omega arith) ∙ g.kept j less;
-        is = λ {p} {t} {bs} kn at under room.
+        is = λ {bs} {count} f agree at under room.
             let z = g.size in
             let size = at.count in
             let fits = at.fits in
-            let y : b ≡ get_or bs i 0 = list_item at (omega arith) one e f in
-            let below = under_at c.count bs i under (omega arith) in
-            let v : w ≡ wanted p t which (get_or bs i 0) = want.is kn (omega arith) ∙ ap (wanted p t which) y in
-            let len = filter_length (wanted p t which) (take i bs) in
+            let y : b ≡ get_or bs i 0 = list_item at (omega arith) one e read in
+            let below = under_at count bs i under (omega arith) in
+            let v : x ≡ f (get_or bs i 0) = agree b x (omega arith) want ∙ ap f y in
+            let len = filter_length f (take i bs) in
             let few = length-take-le i bs (omega arith) in
             held_list
-            (ap (λ (l : List ℕ). filter (wanted p t which) (take i bs) ++ l) (ap₂ only v y)
-            ∙ sym (ap (λ (j : ℕ). filter (wanted p t which) (take j bs)) (add-one i) ∙ filter_more (wanted p t which) bs i (omega arith)))
-            (put.is (g.is kn at under room) (omega arith) (omega arith));
+            (ap (λ (l : List ℕ). filter f (take i bs) ++ l) (ap₂ only v y)
+            ∙ sym (ap (λ (j : ℕ). filter f (take j bs)) (add-one i) ∙ filter_more f bs i (omega arith)))
+            (put.is (g.is f agree at under room) (omega arith) (omega arith));
       }
 
-  pub bounding_done : {work : List ℕ} {k i : ℕ} → Bounding table c work₀ h l which n work k i → n ≤ i → HoldsBounds table c work₀ h l which work k
+  pub bounding_done : {work : List ℕ} {k i : ℕ} → Bounding answers table work₀ h l n work k i → n ≤ i → HoldsBounds answers table work₀ h l work k
   bounding_done {i = i} g le =
       record {
         kept = g.kept;
-        is = λ {p} {t} {bs} kn at under room.
+        is = λ {bs} {count} f agree at under room.
             let z = g.size in
             let size = at.count in
-            held_list (ap (filter (wanted p t which)) (take_all i bs (omega arith))) (g.is kn at under room);
+            held_list (ap (filter f) (take_all i bs (omega arith))) (g.is f agree at under room);
       }
 
 -- the children of a set
@@ -213,16 +178,6 @@ module _ {table : List ℕ} {a : ℕ} {work₀ : List ℕ} {h f n : ℕ} where
             (held_put x (g.is s room) (omega arith)));
       }
 
-  pub fielding_done : {i : ℕ} {work : List ℕ} → Fielding table a work₀ h f n work i → n ≤ i → HoldsFields table a work₀ h work n
-  fielding_done {i} g le =
-      record {
-        kept = g.kept;
-        is = λ {t} s room.
-            let size = g.size s in
-            let few = g.few in
-            held_count (omega arith) (held_list (take_all i (attr_kids t) (omega arith)) (g.is s room));
-      }
-
 pub one_is : {work work' : List ℕ} {h a : ℕ} → work' ≡ set work h a → HoldsOne work h a work' 1
 one_is {work} {work'} {h} {a} e =
     record {
@@ -280,9 +235,6 @@ module _ {table work : List ℕ} {h : ℕ} {e : Entry} where
     pub children_lambda : {b : ℕ} → e ≡ Lambda a b → HoldsTwo work h a b work' r → HoldsChildren table work h e work' r
     children_lambda {b} q o = children_is (a ∷ b ∷ []) o.kept (λ en read. ap held_kids (read_as (Lambda a b) q read).is) (λ room. o.is room)
 
-    pub children_union : {b : ℕ} → e ≡ Union a b → HoldsTwo work h a b work' r → HoldsChildren table work h e work' r
-    children_union {b} q o = children_is (a ∷ b ∷ []) o.kept (λ en read. ap held_kids (read_as (Union a b) q read).is) (λ room. o.is room)
-
     pub children_set : e ≡ AttrSet a → HoldsFields table a work h work' r → HoldsChildren table work h e work' r
     children_set q o =
         record {
@@ -307,13 +259,3 @@ stays (Named n a) pol no_lambda no_neg read = ap (λ (x : rules.Entry). first_po
 stays (Inter a b) pol no_lambda no_neg read = ap (λ (x : rules.Entry). first_polarity x pol) read.is
 stays (Union a b) pol no_lambda no_neg read = ap (λ (x : rules.Entry). first_polarity x pol) read.is
 stays Frozen pol no_lambda no_neg read = ap (λ (x : rules.Entry). first_polarity x pol) read.is
-
-module _ {e : Entry} {pol : Polarity} where
-  pub polarity_lambda : {a b : ℕ} {r : Polarity} → e ≡ Lambda a b → r ≡ flip pol → FirstPolarity e pol r
-  polarity_lambda {a} {b} q f = record { is = λ read. f ∙ sym (ap (λ (x : rules.Entry). first_polarity x pol) (read_as (Lambda a b) q read).is) }
-
-  pub polarity_neg : {a : ℕ} {r : Polarity} → e ≡ Neg a → r ≡ flip pol → FirstPolarity e pol r
-  polarity_neg {a} q f = record { is = λ read. f ∙ sym (ap (λ (x : rules.Entry). first_polarity x pol) (read_as (Neg a) q read).is) }
-
-  pub polarity_same : ((a b : ℕ) → e ≡ Lambda a b → ⊥) → ((a : ℕ) → e ≡ Neg a → ⊥) → FirstPolarity e pol pol
-  polarity_same no_lambda no_neg = record { is = λ read. sym (stays e pol no_lambda no_neg read) }

@@ -8,7 +8,7 @@ use mathlib.Core.List.{List, [], ◌∷◌, ◌++◌, append-nil}
 use lib.ListN.{length, get_or, drop, set, length-set, drop_of_length-le}
 use lib.Seq.{get_or-set_same, get_or-set_other, drop-cons}
 use lib.Dec.{eqb, ltb, leb}
-use borrow.Author.Tests.{eqb-true, eqb-false, lt-ltb, le-ltb, ltb-true, ltb-false, leb-true, leb-false}
+use borrow.Author.Tests.{eqb-true, eqb-false, lt-ltb, ltb-true, ltb-false, leb-true, leb-false}
 use Rattle.cells.specs.Part.{cell, if}
 use Rattle.cells.proofs.Holding.{holds_at}
 use Rattle.layout.specs.Layout.{held_at, seen_at}
@@ -18,7 +18,7 @@ use Rattle.rules.specs.Members.{add_all}
 use Rattle.storage.specs.Helds.{HeldList, only, HoldsIf, Unseen, FirstOfEach, HoldsFirst, Forgets, Deduplicates}
 use Rattle.laws.proofs.Filtering.{under_at, under_added}
 use Rattle.laws.proofs.Containing.{new_itself, new_other, new_length, flag_zero}
-use Rattle.storage.proofs.HeldIds.{held_list, held_none, held_ext}
+use Rattle.storage.proofs.HeldIds.{held_list, held_ext}
 use Rattle.cells.specs.Placed.{Under}
 
 -- `forget` at id i
@@ -30,9 +30,6 @@ pub record Forgetting (work₀ : List ℕ) (h n : ℕ) (work : List ℕ) (i : �
       → ((v : ℕ) → v < count → contains xs v ≡ false → cell work₀ (seen_at + v) ≡ 0) → (v : ℕ) → v < count → contains (drop i xs) v ≡ false → cell work (seen_at + v) ≡ 0
 
 module _ {work₀ : List ℕ} {h n : ℕ} where
-  pub forgetting_start : Forgetting work₀ h n work₀ 0
-  forgetting_start = record { few = omega arith; kept = λ g under few high k other. refl; marks = λ g under few high room only v lt e. only v lt e }
-
   module _ {work work' : List ℕ} {i p b q : ℕ} (f : Forgetting work₀ h n work i) (same : length work ≡ length work₀) (lt : i < n) (e : p ≡ h + i) (get : b ≡ cell work p)
       (at : q ≡ seen_at + b) (put : work' ≡ set work q 0) where
     wiped : work' ≡ set work (seen_at + b) 0
@@ -117,23 +114,6 @@ new_only got x true = append-nil got
 new_only got x false = refl
 
 module _ {work₀ : List ℕ} {h n : ℕ} where
-  pub firsting_start : n ≤ 4294967295 → Firsting work₀ h n work₀ 0 0
-  firsting_start small =
-      record {
-        few = omega arith;
-        small = small;
-        is = λ g under unseen high room.
-            record {
-              got = [];
-              list = held_none work₀ h;
-              few = omega arith;
-              rest = refl;
-              ahead = λ j le. refl;
-              marks = λ v lt. unseen.is v lt;
-              kept = λ j lt other. refl;
-            };
-      }
-
   module _ {work work' : List ℕ} {k k' i p b : ℕ} (put : HoldsFirst work h k b work' k') (f : Firsting work₀ h n work k i) (get : b ≡ cell work p) (e : p ≡ h + i) (lt : i < n)
       (same : length work ≡ length work₀) where
     abbrev marked : List ℕ
@@ -202,24 +182,6 @@ module _ {work₀ : List ℕ} {h n : ℕ} where
     pub firsting_more : Firsting work₀ h n work' k' (i + 1)
     firsting_more = record { few = omega arith; small = f.small; is = λ g under unseen high room. now g under unseen high room }
 
-  pub firsting_done : {work : List ℕ} {k i : ℕ} → Firsting work₀ h n work k i → n ≤ i → FirstOfEach work₀ h n work k
-  firsting_done {work} {k} {i} f le =
-      record {
-        is = λ {bs} {count} g under unseen high room.
-            let size = g.count in
-            let w = f.is g under unseen high room in
-            let few = f.few in
-            let len = w.few in
-            let z : w.got ≡ add_all [] bs = sym (ap (add_all w.got) (drop_of_length-le bs {i = i} (omega arith))) ∙ w.rest in
-            let long = ap length z in
-            record {
-              list = held_list z w.list;
-              few = omega arith;
-              marks = λ v lt. w.marks v lt ∙ ap (λ (l : List ℕ). flag (contains l v)) z;
-              kept = w.kept;
-            };
-      }
-
 -- a cell marks one of count ids, or it does not
 module _ (count : ℕ) (P : ℕ → Type 0) (yes : (v : ℕ) → v < count → P (seen_at + v)) (j : ℕ) (no : ((v : ℕ) → v < count → j ≡ seen_at + v → ⊥) → P j) where
   mark_cases : (a b : Bool) → leb seen_at j ≡ a → ltb (j - seen_at) count ≡ b → P j
@@ -234,17 +196,6 @@ module _ (count : ℕ) (P : ℕ → Type 0) (yes : (v : ℕ) → v < count → P
   by_mark = mark_cases (leb seen_at j) (ltb (j - seen_at) count) refl refl
 
 module _ {work : List ℕ} {h n : ℕ} where
-  pub dedup_few : n ≤ 16 → Deduplicates work h n work n
-  dedup_few le =
-      record {
-        is = λ {bs} g under unseen high room.
-            let size = g.count in
-            record {
-              list = held_list (sym (ap (λ (t : Bool). if t (λ _. add_all [] bs) (λ _. bs)) (le-ltb 16 (length bs) (omega arith)))) g;
-              kept = λ k lt. refl;
-            };
-      }
-
   pub dedup_many : {w work' : List ℕ} {k : ℕ} → 16 < n → FirstOfEach work h n w k → length w ≡ length work → Forgets w h k work' → Deduplicates work h n work' k
   dedup_many {w} {work'} {k} gt first same forget =
       record {

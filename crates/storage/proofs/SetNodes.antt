@@ -21,7 +21,7 @@ use Rattle.laws.specs.Sound.{Orderly}
 use Rattle.laws.proofs.Ascending.{ascending_few, orderly_same}
 use Rattle.laws.proofs.Rows.{field_words_length, dyn_words_length, attr_words_length, few_dyns, set_count, set_fields, set_dyn, dyns_read, key_read}
 use Rattle.lang_ty.specs.declared.arena.Pass.{Pass}
-use Rattle.lang_ty.specs.declared.arena.Given.{Given}
+use Rattle.lang_ty.specs.Given.{Given}
 use Rattle.lang_ty.specs.Nodes.{highest, Interned, Top, Written}
 use Rattle.lang_ty.specs.Sets.{Fields, Dyns, Optionals}
 use Rattle.lang_ty.proofs.Rows.{written_none, written_more, written_list, written_both, stored_row}
@@ -68,23 +68,6 @@ module _ {w₀ held : List ℕ} {a n h : ℕ} where
         is = λ j lt. c.is j (omega arith);
         other = λ k fits un. c.other k fits (λ j lt. un j (omega (arith, c.few)));
       }
-
--- `put_dyn`
-module _ {w held : List ℕ} {a n dyns h : ℕ} where
-  pub dyn_put : {w' : List ℕ} {m o p r v : ℕ} → (dyns ≡ 0 → ⊥) → Sum n n m → Sum m 2 o → p ≡ a + o → r ≡ h + n → v ≡ cell held r → w' ≡ set w p v
-      → PutsDyn w a n dyns held h w'
-  dyn_put {p = p} {v = v} has two more place from read put =
-      record {
-        none = λ e. absurd (has e);
-        some = λ _ fits.
-            let x = two.is (omega arith) in
-            let y = more.is (omega arith) in
-            let z : p ≡ a + (2 * n + 2) = omega arith in
-            put ∙ ap (λ (k : ℕ). set w k v) z ∙ ap (set w (a + (2 * n + 2))) (read ∙ ap (cell held) from);
-      }
-
-  pub dyn_left : dyns ≡ 0 → PutsDyn w a n dyns held h w
-  dyn_left e = record { none = λ _. refl; some = λ un. absurd (un e) }
 
 -- the set with answers: as many fields, and the answers as its children
 retype_length : (fs : List Field) (xs : List ℕ) → length (retype_fields fs xs) ≡ length fs

@@ -1,46 +1,34 @@
 -- A variable as a node, and beside what its bounds expand to, return by return. Assumes nothing.
 use mathlib.Core.Path.{◌≡◌, sym, ap, ap₂, ◌∙◌, subst}
-use mathlib.Core.Bool.{Bool, true, false, not, ◌||◌}
-use Prim.Native.Nat.{ℕ, ◌+◌, ◌<◌}
+use mathlib.Core.Bool.{Bool, true, false, ◌||◌}
+use Prim.Native.Nat.{ℕ, ◌<◌}
 use native.Mathlib.Omega.{arith}
 use mathlib.Core.List.{List, [], ◌∷◌}
 use lib.ListN.{length, length-append}
 use lib.Dec.{eqb}
 use borrow.Author.Tests.{ne_eqb}
-use Rattle.cells.specs.Part.{cell, if}
-use Rattle.layout.specs.Layout.{preserved_at}
+use Rattle.cells.specs.Part.{if}
 use Rattle.rules.specs.Types.{State, Out, Run, bind, give, TyVar, store}
-use Rattle.rules.specs.Types as types
 use Rattle.rules.specs.Canonicalizer.{composite_kind, composite, preserving}
 use Rattle.rules.specs.Canonicalizer as rules
 use Rattle.rules.specs.declared.Polarity.{Polarity}
 use Rattle.rules.specs.declared.Polarity.TheVariants.{Positive, Negative}
 use Rattle.laws.proofs.Storing.{store_keeps}
 use Rattle.lang_ty.specs.declared.arena.Pass.{Pass}
-use Rattle.lang_ty.specs.declared.arena.Given.{Given}
-use Rattle.lang_ty.specs.declared.arena.Given.TheVariants.{Node, Refused}
+use Rattle.lang_ty.specs.Given.{Given}
+use Rattle.lang_ty.specs.Given.{Node}
 use Rattle.lang_ty.specs.Nodes.{Stands, Answers, Kind, Stored}
-use Rattle.lang_ty.proofs.Stores.{gives, refuses, answers_of, stored_tyvar, stored_union, stored_intersection}
+use Rattle.lang_ty.proofs.Stores.{gives, answers_of, stored_tyvar, stored_union, stored_intersection}
 use Rattle.storage.specs.declared.given.Canon.{Canon}
 use Rattle.storage.specs.Passes.{Reps}
 use Rattle.storage.specs.Equivs.{Rep}
-use Rattle.storage.specs.Vars.{IsVariable, IsPreserved, Beside, Preserving, own_end, Expanded}
+use Rattle.storage.specs.Vars.{IsVariable, Beside}
 
 pub variable_is : {table w w' : List ℕ} {c : Canon} {q : Pass} {id r : ℕ} {g : Given} → Rep table c.count id r
     → Stored (0 ∷ r ∷ []) 0 w q w' g
     → IsVariable table c w q id w' g
 variable_is {id = id} rep h =
     record { is = λ {p} {st} k on. answers_of (ap (λ (x : ℕ). store (TyVar x) st) (k.is id ∙ sym rep.is)) (stored_tyvar on h) }
-
-pub preserved_is : {table : List ℕ} {c : Canon} {id r place v : ℕ} → Rep table c.count id r → place ≡ preserved_at + r → v ≡ cell table place
-    → IsPreserved table c id (not (eqb v 0))
-preserved_is {table} {id = id} rep e f =
-    record {
-      is = λ {p} {t} k lt.
-          let z = e ∙ ap (λ (j : ℕ). preserved_at + j) (rep.is ∙ sym (k.reps.is id)) in
-          ap (λ (j : ℕ). not (eqb j 0)) (f ∙ ap (cell table) z)
-          ∙ sym (k.preserved (p.rep id) (k.reps.below id lt));
-    }
 
 both_stored : {st : State} {w w' : List ℕ} {q : Pass} {r : Given} {a b : ℕ} (pol : Polarity) → Stands st w q
     → Stored (composite_kind pol ∷ 2 ∷ a ∷ b ∷ []) 2 w q w' r → a < q.nodes → b < q.nodes → Answers (store (composite pol (a ∷ b ∷ [])) st) w' r
@@ -53,13 +41,6 @@ ending b pol x y = if b (λ _. give y) (λ _. store (composite pol (y ∷ x ∷ 
 
 -- `beside`
 module _ {table w w₁ : List ℕ} {c : Canon} {q : Pass} {x id k : ℕ} {v : Given} (kind : Kind w x k) (h : IsVariable table c w q id w₁ v) where
-  pub beside_refused : {pol : Polarity} {n : ℕ} → v ≡ Refused n → Beside table c w q x id pol w₁ (Refused n)
-  beside_refused {pol} e =
-      record {
-        is = λ {p} {st} reps on lt.
-            record { is = ap (λ (o : Out ℕ). bind o (ending (types.is st.nodes 0 x || types.is st.nodes 9 x) pol x)) (refuses (h.is reps on) e) };
-      }
-
   module _ {y : ℕ} {r : Pass} (e : v ≡ Node y r) where
     -- whether x is neither, by its kind
     goes : {p : rules.Pass} {st : State} (pol : Polarity) (b : Bool) → (eqb k 0 || eqb k 9) ≡ b → (reps : Reps table c p) (on : Stands st w q)
@@ -77,12 +58,6 @@ module _ {table w w₁ : List ℕ} {c : Canon} {q : Pass} {x id k : ℕ} {v : Gi
               record { is = record { after = g.after; is = goes pol true z reps on lt; stands = g.stands; below = g.below } };
         }
 
-    pub beside_tyvar : {pol : Polarity} → k ≡ 0 → Beside table c w q x id pol w₁ (Node y r)
-    beside_tyvar z = alone (ap (λ (j : ℕ). eqb j 0 || eqb j 9) z)
-
-    pub beside_bottom : {pol : Polarity} → k ≡ 9 → Beside table c w q x id pol w₁ (Node y r)
-    beside_bottom z = alone (ap (λ (j : ℕ). eqb j 0 || eqb j 9) z)
-
     pub beside_both : {pol : Polarity} {w₂ : List ℕ} {j : ℕ} {o : Given} → (k ≡ 0 → ⊥) → (k ≡ 9 → ⊥) → j ≡ composite_kind pol
         → Stored (j ∷ 2 ∷ y ∷ x ∷ []) 2 w₁ r w₂ o
         → Beside table c w q x id pol w₂ o
@@ -97,26 +72,3 @@ module _ {table w w₁ : List ℕ} {c : Canon} {q : Pass} {x id k : ℕ} {v : Gi
               (both_stored pol g.stands (subst (λ (n : ℕ). Stored (n ∷ 2 ∷ y ∷ x ∷ []) 2 w₁ r w₂ o) z stored)
               (omega (arith, g.below)) (omega arith));
         }
-
--- `preserving`
-module _ {table w : List ℕ} {c : Canon} {g : Given} {id : ℕ} {pol : Polarity} where
-  pub preserving_node : {w' : List ℕ} {x : ℕ} {q : Pass} {r : Given} → g ≡ Node x q → Beside table c w q x id pol w' r
-      → Preserving table c w g id pol w' r
-  preserving_node e h =
-      record {
-        is = λ {p} o reps a.
-            let b = gives a e in
-            answers_of (ap (λ (n : Out ℕ). bind n (preserving p id pol)) b.is) (h.is reps b.stands b.below);
-      }
-
-  pub preserving_refused : {k : ℕ} → g ≡ Refused k → Preserving table c w g id pol w (Refused k)
-  preserving_refused e = record { is = λ {p} o reps a. record { is = ap (λ (n : Out ℕ). bind n (preserving p id pol)) (refuses a e) } }
-
-  -- `expanded`
-  module _ {kept : Bool} where
-    pub expanded_beside : {w' : List ℕ} {r : Given} → kept ≡ true → Preserving table c w g id pol w' r → Expanded table c w g id pol kept w' r
-    expanded_beside {w'} {r} e h =
-        record { is = λ {p} o reps a. subst (λ (b : Bool). Answers (own_end p id pol b o) w' r) (sym e) (h.is o reps a) }
-
-    pub expanded_alone : kept ≡ false → Expanded table c w g id pol kept w g
-    expanded_alone e = record { is = λ {p} o reps a. subst (λ (b : Bool). Answers (own_end p id pol b o) w g) (sym e) a }

@@ -1,4 +1,5 @@
 -- Entries read, and what the functions of storage.rt ensure.
+use Rattle.std.specs.Prelude.{Option, Some, None}
 use Rattle.std.specs.Prelude.{◌≡◌, Bool, ℕ, suc, ◌+◌, ◌<◌, List, ◌++◌, length, eqb}
 use Rattle.cells.specs.Part.{cell, if}
 use Rattle.rules.specs.Table.{Attr, var, prim, tyvar, list, fn, set, neg, named, inter, union, frozen}
@@ -8,8 +9,6 @@ use Rattle.rules.specs.Canonicalizer.{Reader, is_variable, is_atom, named_bound}
 use Rattle.rules.specs.Canonicalizer as runs
 use Rattle.rules.specs.declared.Polarity.{Polarity}
 use Rattle.lang_ty.specs.Sets.{SetAt}
-use Rattle.lang_ty.specs.declared.arena.Found.{Found}
-use Rattle.lang_ty.specs.declared.arena.Found.TheVariants.{At, Nowhere}
 use Rattle.storage.specs.declared.given.Canon.{Canon}
 use Rattle.storage.specs.declared.entries.Entry.{Entry}
 use Rattle.storage.specs.declared.entries.Entry.TheVariants.{Variable, Primitive, TyVar, List as ListOf, Lambda, AttrSet, Neg, Named, Inter}
@@ -78,14 +77,14 @@ pub record Uppers (table : List ℕ) (v r : ℕ) : Type 0 where
   pub is : {l : List ℕ} → ListAt table v l → r ≡ suc v + length l
 
 -- the first of the bounds that is a Named, an entry
-abbrev pub NamedIs : ℕ → Reader → List ℕ → Found → Type 0
-NamedIs count t bs (At b) = ((hit : ℕ → Run ℕ) (miss : Run ℕ) → named_bound t hit miss bs ≡ hit b) × (b < count)
-NamedIs count t bs Nowhere = (hit : ℕ → Run ℕ) (miss : Run ℕ) → named_bound t hit miss bs ≡ miss
+abbrev pub NamedIs : ℕ → Reader → List ℕ → Option ℕ → Type 0
+NamedIs count t bs (Some b) = ((hit : ℕ → Run ℕ) (miss : Run ℕ) → named_bound t hit miss bs ≡ hit b) × (b < count)
+NamedIs count t bs None = (hit : ℕ → Run ℕ) (miss : Run ℕ) → named_bound t hit miss bs ≡ miss
 
-pub record FindsNamed (table : List ℕ) (c : Canon) (l : ℕ) (r : Found) : Type 0 where
+pub record FindsNamed (table : List ℕ) (c : Canon) (l : ℕ) (r : Option ℕ) : Type 0 where
   pub is : {t : Reader} {bs : List ℕ} → Reads table c t → ListAt table l bs → Under c.count bs → NamedIs c.count t bs r
 
-pub record NamedBound (table : List ℕ) (c : Canon) (v : ℕ) (r : Found) : Type 0 where
+pub record NamedBound (table : List ℕ) (c : Canon) (v : ℕ) (r : Option ℕ) : Type 0 where
   pub is : {t : Reader} {l u : List ℕ} → Reads table c t → BoundsAt table v l u → Under c.count l → Under c.count u → NamedIs c.count t (l ++ u) r
 
 -- a variable is tried again in the other polarity

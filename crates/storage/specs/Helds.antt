@@ -1,5 +1,5 @@
 -- Lists of ids held in the working slice, and what the functions of held.rt ensure. Of the cells below h none changes.
-use Rattle.std.specs.Prelude.{◌≡◌, Bool, true, false, not, ℕ, ◌+◌, ◌≤◌, ◌<◌, List, [], ◌∷◌, ◌++◌, length, get_or, set as set_at, eqb}
+use Rattle.std.specs.Prelude.{Option, Some, None, ◌≡◌, Bool, true, false, not, ℕ, ◌+◌, ◌≤◌, ◌<◌, List, [], ◌∷◌, ◌++◌, length, get_or, set as set_at, eqb}
 use Rattle.cells.specs.Part.{cell, if}
 use Rattle.layout.specs.Layout.{held_at, seen_at}
 use Rattle.rules.specs.Ceilings.{most_entries}
@@ -13,10 +13,7 @@ use Rattle.rules.specs.Canonicalizer as runs
 use Rattle.rules.specs.declared.Polarity.{Polarity}
 use Rattle.lang_ty.specs.Sets.{SetAt}
 use Rattle.storage.specs.declared.given.Canon.{Canon}
-use Rattle.storage.specs.declared.held.Which.{Which}
-use Rattle.storage.specs.declared.held.Which.TheVariants.{All, Concrete, OfOthers, Atoms}
-use Rattle.storage.specs.declared.held.Own.{Own}
-use Rattle.storage.specs.declared.held.Own.TheVariants.{Variable, Bounds}
+use Rattle.storage.specs.declared.held.Bounds.{Bounds as BoundsHeld}
 use Rattle.storage.specs.declared.entries.Entry.{Entry}
 use Rattle.storage.specs.Passes.{ListAt, BoundsAt, Knows}
 use Rattle.storage.specs.Entries.{ReadAs}
@@ -36,21 +33,11 @@ pub record HoldsIf (work : List ℕ) (h k b : ℕ) (kept : Bool) (work' : List �
   pub others : (j : ℕ) → (j ≡ h + k → ⊥) → cell work' j ≡ cell work j
   pub is : {xs : List ℕ} → HeldList work h k xs → h + length xs < length work → length xs < 4294967295 → HeldList work' h r (xs ++ only kept b)
 
--- which bounds of a list are expanded
-abbrev pub wanted : Pass → Reader → Which → ℕ → Bool
-wanted p t All b = true
-wanted p t Concrete b = not (is_variable (t b))
-wanted p t (OfOthers r) b = not (eqb (p.rep b) r)
-wanted p t Atoms b = is_atom t (t b)
-
-pub record Wanted (table : List ℕ) (c : Canon) (which : Which) (b : ℕ) (r : Bool) : Type 0 where
-  pub is : {p : Pass} {t : Reader} → Knows table c p t → b < c.count → r ≡ wanted p t which b
-
--- the bounds that are wanted of the list at l
-pub record HoldsBounds (table : List ℕ) (c : Canon) (work : List ℕ) (h l : ℕ) (which : Which) (work' : List ℕ) (r : ℕ) : Type 0 where
+-- the bounds of the list at l for which f holds, where what is asked of a bound answers as f does at each of count ids
+pub record HoldsBounds (answers : ℕ → Bool → Type 0) (table work : List ℕ) (h l : ℕ) (work' : List ℕ) (r : ℕ) : Type 0 where
   pub kept : (k : ℕ) → k < h → cell work' k ≡ cell work k
-  pub is : {p : Pass} {t : Reader} {bs : List ℕ} → Knows table c p t → ListAt table l bs → Under c.count bs → h + length bs ≤ length work
-      → HeldList work' h r (filter (wanted p t which) bs)
+  pub is : {bs : List ℕ} {count : ℕ} (f : ℕ → Bool) → ((b : ℕ) (x : Bool) → b < count → answers b x → x ≡ f b) → ListAt table l bs → Under count bs
+      → h + length bs ≤ length work → HeldList work' h r (filter f bs)
 
 -- what marks an id as seen is zero for each of count ids
 pub record Unseen (work : List ℕ) (count : ℕ) : Type 0 where
@@ -116,7 +103,15 @@ pub record OwnHeld (p : Pass) (t : Reader) (id : ℕ) (pol : Polarity) (bs work 
   pub below : Under p.count list
   pub few : length list ≤ length bs
 
--- what a variable's own rule begins with
+-- what a variable's own rule begins with: itself, or so many bounds held, beside which it stays or not
+pub data Own : Type 0 where
+  Variable : Own
+  Bounds : ℕ → Bool → Own
+
+abbrev pub own_of : Option BoundsHeld → Own
+own_of (Some b) = Bounds b.count b.kept
+own_of None = Variable
+
 abbrev pub OwnIs : Pass → Reader → ℕ → Polarity → List ℕ → List ℕ → ℕ → Own → Type 0
 OwnIs p t id pol bs work h Variable = (v : Visit) → variable_rule p t v id pol bs (concretes t bs) ≡ variable p id
 OwnIs p t id pol bs work h (Bounds n kept) = OwnHeld p t id pol bs work h n kept

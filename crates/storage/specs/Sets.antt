@@ -5,7 +5,7 @@ use Rattle.rules.specs.Table.{Field, Attr, attr_kids}
 use Rattle.rules.specs.Types.{State, AttrSet, store}
 use Rattle.laws.specs.Sound.{Orderly}
 use Rattle.lang_ty.specs.declared.arena.Pass.{Pass}
-use Rattle.lang_ty.specs.declared.arena.Given.{Given}
+use Rattle.lang_ty.specs.Given.{Given}
 use Rattle.lang_ty.specs.Nodes.{Stands, Answers}
 use Rattle.lang_ty.specs.Sets.{SetAt}
 use Rattle.cells.specs.Placed.{Holds, Under}

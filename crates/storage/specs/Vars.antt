@@ -5,7 +5,7 @@ use Rattle.rules.specs.Canonicalizer.{variable, preserving, Reader}
 use Rattle.rules.specs.Canonicalizer as rules
 use Rattle.rules.specs.declared.Polarity.{Polarity}
 use Rattle.lang_ty.specs.declared.arena.Pass.{Pass}
-use Rattle.lang_ty.specs.declared.arena.Given.{Given}
+use Rattle.lang_ty.specs.Given.{Given}
 use Rattle.lang_ty.specs.Nodes.{Stands, Answers}
 use Rattle.storage.specs.declared.given.Canon.{Canon}
 use Rattle.storage.specs.Passes.{Reps, Knows}
@@ -20,10 +20,6 @@ pub record IsPreserved (table : List ℕ) (c : Canon) (id : ℕ) (r : Bool) : Ty
 -- the variable beside node x
 pub record Beside (table : List ℕ) (c : Canon) (w : List ℕ) (q : Pass) (x id : ℕ) (pol : Polarity) (w' : List ℕ) (r : Given) : Type 0 where
   pub is : {p : rules.Pass} {st : State} → Reps table c p → Stands st w q → x < length st.nodes → Answers (preserving p id pol x st) w' r
-
--- the variable beside what its bounds expand to
-pub record Preserving (table : List ℕ) (c : Canon) (w : List ℕ) (g : Given) (id : ℕ) (pol : Polarity) (w' : List ℕ) (r : Given) : Type 0 where
-  pub is : {p : rules.Pass} (o : Out ℕ) → Reps table c p → Answers o w g → Answers (bind o (preserving p id pol)) w' r
 
 -- what a variable's own rule comes to once its bounds are expanded
 abbrev pub own_end : rules.Pass → ℕ → Polarity → Bool → Out ℕ → Out ℕ

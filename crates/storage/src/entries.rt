@@ -3,7 +3,6 @@ ghost use Rattle.storage.specs.Entries.{Row, KindAt, IsVar, EntryOfTwo, EntryRea
 
 use crate::given::Canon;
 use cells::{add, at, get, place};
-use lang_ty::arena::Found;
 use rules::Polarity;
 
 // TypeEntry and Ty. A variable's and a set's lists stand in the row, from the place given on.
@@ -22,7 +21,7 @@ pub enum Entry {
     Frozen,
 }
 
-// The numbers of the kinds of entries.
+// The numbers that a table's rows begin with, of the kinds that are asked for alone: `entry_at` makes the enum of all of them, and reads more.
 #[derive(Clone, Copy)]
 pub struct EntryKind {}
 
@@ -106,30 +105,24 @@ pub fn uppers(table: &[u32], v: u32) -> u32
 }
 
 // The first bound of the list at l that is a Named, if there is one.
-fn find_named(table: &[u32], c: Canon, l: u32) -> Found
+fn find_named(table: &[u32], c: Canon, l: u32) -> Option<u32>
     ensures { FindsNamed table.now c l result }
 {
     let n = at(table, l);
-    let mut i = 0;
-    while i < n {
+    for i in 0..n {
         let b = get(table, place(add(l, 1), i));
         if entry_kind(table, c, b) == EntryKind::NAMED {
-            return Found::At(b);
+            return Some(b);
         }
-        i += 1;
     }
-    Found::Nowhere
+    None
 }
 
 // A Named bound of the variable at v, lowers searched first.
-pub fn named_bound(table: &[u32], c: Canon, v: u32) -> Found
+pub fn named_bound(table: &[u32], c: Canon, v: u32) -> Option<u32>
     ensures { NamedBound table.now c v result }
 {
-    let lower = find_named(table, c, v);
-    if let Found::At(_) = lower {
-        return lower;
-    }
-    find_named(table, c, uppers(table, v))
+    find_named(table, c, v).or_else(|| find_named(table, c, uppers(table, v)))
 }
 
 // A variable is tried again in the other polarity.

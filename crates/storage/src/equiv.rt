@@ -9,8 +9,7 @@ fn find(parent: &mut [u32], count: u32, id: u32) -> u32
     ensures { Finds parent.old count id parent.new result }
 {
     let mut cur = id;
-    let mut i = 0;
-    while i < count {
+    for i in 0..count {
         let p = at(parent, cur);
         if p == cur {
             return cur;
@@ -18,7 +17,6 @@ fn find(parent: &mut [u32], count: u32, id: u32) -> u32
         let above = at(parent, p);
         set(parent, cur, above);
         cur = above;
-        i += 1;
     }
     cur
 }
@@ -27,10 +25,7 @@ fn find(parent: &mut [u32], count: u32, id: u32) -> u32
 fn union(parent: &mut [u32], count: u32, a: u32, b: u32)
     ensures { Unites parent.old count a b parent.new }
 {
-    if count <= a {
-        return;
-    }
-    if count <= b {
+    if count <= a || count <= b {
         return;
     }
     let ra = find(parent, count, a);
@@ -41,10 +36,8 @@ fn union(parent: &mut [u32], count: u32, a: u32, b: u32)
 fn alone(parent: &mut [u32], count: u32)
     ensures { Alone parent.old count parent.new }
 {
-    let mut i = 0;
-    while i < count {
+    for i in 0..count {
         set(parent, i, i);
-        i += 1;
     }
 }
 
@@ -52,24 +45,20 @@ fn alone(parent: &mut [u32], count: u32)
 fn union_pairs(table: &mut [u32], count: u32, first: u32, pairs: u32)
     ensures { UnitesAll table.old count first pairs table.new }
 {
-    let mut i = 0;
-    while i < pairs {
+    for i in 0..pairs {
         let p = get(table, place(first, i));
         let a = get(table, place(p, 1));
         let b = get(table, place(p, 2));
         union(table, count, a, b);
-        i += 1;
     }
 }
 
 fn settle(parent: &mut [u32], count: u32)
     ensures { Settles parent.old count parent.new }
 {
-    let mut i = 0;
-    while i < count {
+    for i in 0..count {
         let r = find(parent, count, i);
         set(parent, i, r);
-        i += 1;
     }
 }
 

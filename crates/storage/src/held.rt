@@ -1,5 +1,5 @@
 // Lists of ids held in the working slice: the bounds by which a variable is expanded, the children of an entry.
-ghost use Rattle.storage.specs.Helds.{Wanted, HoldsIf, HoldsBounds, Forgets, HoldsFirst, FirstOfEach, Deduplicates, BeginsList, OwnList, OwnBounds, SetChild};
+ghost use Rattle.storage.specs.Helds.{HoldsIf, HoldsBounds, Forgets, HoldsFirst, FirstOfEach, Deduplicates, BeginsList, OwnList, own_of, OwnBounds, SetChild};
 ghost use Rattle.storage.specs.Helds.{HoldsFields, HoldsOne, HoldsTwo, HoldsChildren, FirstPolarity};
 
 use crate::entries;
@@ -12,32 +12,11 @@ use lang_ty::attrset;
 use layout::{TableSlice, WorkSlice};
 use rules::Polarity;
 
-// Which bounds of a list are expanded.
+// The bounds held with which a variable's own rule begins: how many, and whether the variable stays beside them.
 #[derive(Clone, Copy)]
-pub enum Which {
-    All,
-    Concrete,
-    OfOthers(u32),
-    Atoms,
-}
-
-// What a variable's own rule begins with: itself, or so many bounds held, beside which it stays if it is preserved.
-#[derive(Clone, Copy)]
-pub enum Own {
-    Variable,
-    Bounds(u32, bool),
-}
-
-// Whether a bound is expanded.
-fn is_wanted(table: &[u32], c: Canon, which: Which, b: u32) -> bool
-    ensures { Wanted table.now c which b result }
-{
-    match which {
-        Which::All => true,
-        Which::Concrete => !entries::is_variable(table, c, b),
-        Which::OfOthers(r) => rep(table, c.count, b) != r,
-        Which::Atoms => entries::is_atom(table, c, b),
-    }
+pub struct Bounds {
+    pub count: u32,
+    pub kept: bool,
 }
 
 // b put after the k cells held from h on, if it is to be kept; how many there are then.
@@ -51,17 +30,22 @@ fn hold_if(work: &mut [u32], h: u32, k: u32, b: u32, kept: bool) -> u32
     add(k, 1)
 }
 
-// The bounds that are wanted of the list at l, held from h on; how many there are.
-fn hold_bounds(table: &[u32], c: Canon, work: &mut [u32], h: u32, l: u32, which: Which) -> u32
-    ensures { HoldsBounds table.now c work.old h l which work.new result }
+// The bounds of the list at l that are wanted, held from h on; how many there are.
+fn hold_bounds<F: Fn(u32) -> bool>(
+    table: &[u32],
+    work: &mut [u32],
+    h: u32,
+    l: u32,
+    wanted: F,
+) -> u32
+    requires { F.IsAlwaysCallable wanted }
+    ensures { HoldsBounds (λ b x. F.post wanted b x) table.now work.old h l work.new result }
 {
     let n = at(table, l);
     let mut k = 0;
-    let mut i = 0;
-    while i < n {
+    for i in 0..n {
         let b = get(table, place(add(l, 1), i));
-        k = hold_if(work, h, k, b, is_wanted(table, c, which, b));
-        i += 1;
+        k = hold_if(work, h, k, b, wanted(b));
     }
     k
 }
@@ -70,11 +54,9 @@ fn hold_bounds(table: &[u32], c: Canon, work: &mut [u32], h: u32, l: u32, which:
 fn forget(work: &mut [u32], h: u32, n: u32)
     ensures { Forgets work.old h n work.new }
 {
-    let mut i = 0;
-    while i < n {
+    for i in 0..n {
         let b = get(work, place(h, i));
         put(work, place(WorkSlice::SEEN, b), 0);
-        i += 1;
     }
 }
 
@@ -93,10 +75,8 @@ fn first_of_each(work: &mut [u32], h: u32, n: u32) -> u32
     ensures { FirstOfEach work.old h n work.new result }
 {
     let mut k = 0;
-    let mut i = 0;
-    while i < n {
+    for i in 0..n {
         k = hold_first(work, h, k, get(work, place(h, i)));
-        i += 1;
     }
     k
 }
@@ -122,16 +102,15 @@ pub fn begin_list(table: &[u32], c: Canon, work: &mut [u32], h: u32, id: u32, po
     match pol {
         Polarity::Positive => {
             let u = entries::uppers(table, v);
-            hold_bounds(table, c, work, h, u, Which::Atoms)
+            hold_bounds(table, work, h, u, |b| entries::is_atom(table, c, b))
         }
         Polarity::Negative => {
-            if get(table, place(TableSlice::MARKS, id)) != 0 {
+            if get(table, place(TableSlice::MARKS, id)) != 0
+                || get(table, place(TableSlice::MARKS, rep(table, c.count, id))) != 0
+            {
                 return 0;
             }
-            if get(table, place(TableSlice::MARKS, rep(table, c.count, id))) != 0 {
-                return 0;
-            }
-            hold_bounds(table, c, work, h, v, Which::All)
+            hold_bounds(table, work, h, v, |_| true)
         }
     }
 }
@@ -147,7 +126,7 @@ fn own_list(table: &[u32], v: u32, pol: Polarity) -> u32
 }
 
 // The bounds by which the variable id with lists at v is expanded, held from h on: those that are no variables, or without any those of
-// other classes.
+// other classes; none where it is the variable itself.
 pub fn own_bounds(
     table: &[u32],
     c: Canon,
@@ -156,20 +135,21 @@ pub fn own_bounds(
     id: u32,
     v: u32,
     pol: Polarity,
-) -> Own
-    ensures { OwnBounds table.now c work.old h id v pol work.new result }
+) -> Option<Bounds>
+    ensures { OwnBounds table.now c work.old h id v pol work.new (own_of result) }
 {
     let l = own_list(table, v, pol);
     let kept = is_preserved(table, c, id);
-    let n = hold_bounds(table, c, work, h, l, Which::Concrete);
+    let n = hold_bounds(table, work, h, l, |b| !entries::is_variable(table, c, b));
     if n != 0 {
-        return Own::Bounds(n, kept);
+        return Some(Bounds { count: n, kept });
     }
     if kept {
-        return Own::Variable;
+        return None;
     }
     let r = rep(table, c.count, id);
-    Own::Bounds(hold_bounds(table, c, work, h, l, Which::OfOthers(r)), false)
+    let count = hold_bounds(table, work, h, l, |b| rep(table, c.count, b) != r);
+    Some(Bounds { count, kept: false })
 }
 
 // The id that stands i-th among the fields and the dyn of the set at a, which has n fields.
@@ -189,10 +169,8 @@ fn hold_fields(table: &[u32], a: u32, work: &mut [u32], h: u32) -> u32
 {
     let f = attrset::fields(table, a);
     let n = add(f, attrset::dyns(table, a));
-    let mut i = 0;
-    while i < n {
+    for i in 0..n {
         put(work, place(h, i), set_child(table, a, f, i));
-        i += 1;
     }
     n
 }
@@ -217,12 +195,9 @@ pub fn hold_children(table: &[u32], work: &mut [u32], h: u32, e: Entry) -> u32
     ensures { HoldsChildren table.now work.old h e work.new result }
 {
     match e {
-        Entry::List(a) => hold_one(work, h, a),
-        Entry::Lambda(a, b) => hold_two(work, h, a, b),
+        Entry::List(a) | Entry::Neg(a) | Entry::Named(_, a) => hold_one(work, h, a),
+        Entry::Lambda(a, b) | Entry::Union(a, b) => hold_two(work, h, a, b),
         Entry::AttrSet(a) => hold_fields(table, a, work, h),
-        Entry::Neg(a) => hold_one(work, h, a),
-        Entry::Named(_, a) => hold_one(work, h, a),
-        Entry::Union(a, b) => hold_two(work, h, a, b),
         _ => 0,
     }
 }
@@ -232,8 +207,7 @@ pub fn first_polarity(e: Entry, pol: Polarity) -> Polarity
     ensures { FirstPolarity e pol result }
 {
     match e {
-        Entry::Lambda(_, _) => pol.flip(),
-        Entry::Neg(_) => pol.flip(),
+        Entry::Lambda(..) | Entry::Neg(_) => pol.flip(),
         _ => pol,
     }
 }

@@ -17,6 +17,7 @@ pub struct PolarityBits {
 }
 
 impl PolarityBits {
+    // Tests, no `|`: any number without the bit by the rules' test keeps its value, as 4 does, which `| 2` would change.
     pub fn add(self, pol: Polarity) -> PolarityBits
         ensures { AddsBit self pol result }
     {
@@ -67,43 +68,25 @@ pub fn note(table: &[u32], c: Canon, work: &mut [u32], id: u32, pol: Polarity)
     put(work, p, new.bits);
 }
 
-pub fn count_one(q: Pass) -> Pass
-    ensures { PassWith q (tick q.ops) q.bailed result }
+pub fn count_one(q: &mut Pass)
+    ensures { PassWith q.old (tick q.old.ops) q.old.bailed q.new }
 {
-    let n = q.ops;
-    if n < Canon::OPERATIONS {
-        return Pass {
-            nodes: q.nodes,
-            cells: q.cells,
-            ops: n + 1,
-            sorted: q.sorted,
-            bailed: q.bailed,
-        };
+    if q.ops < Canon::OPERATIONS {
+        q.ops += 1;
     }
-    q
 }
 
 // The pass's count is a multiple of 512, and the operations of both passes so far exceed the budget.
-pub fn exceeds(c: Canon, q: Pass) -> bool
-    ensures { Exceeds c q result }
+pub fn exceeds(c: Canon, q: &Pass) -> bool
+    ensures { Exceeds c q.now result }
 {
-    let n = q.ops;
-    if n % Canon::INTERVAL != 0 {
-        return false;
-    }
-    (c.budget as u64) < c.spent as u64 + n as u64
+    q.ops % Canon::INTERVAL == 0 && u64::from(c.budget) < u64::from(c.spent) + u64::from(q.ops)
 }
 
-pub fn bail(q: Pass) -> Pass
-    ensures { PassWith q q.ops true result }
+pub fn bail(q: &mut Pass)
+    ensures { PassWith q.old q.old.ops true q.new }
 {
-    Pass {
-        nodes: q.nodes,
-        cells: q.cells,
-        ops: q.ops,
-        sorted: q.sorted,
-        bailed: true,
-    }
+    q.bailed = true;
 }
 
 // Which lists of a chain fallbacks began after the bail.
@@ -138,13 +121,7 @@ pub fn begin(g: Begun, pol: Polarity, bailed: bool) -> Begun
         return g;
     }
     match pol {
-        Polarity::Positive => Begun {
-            lower: g.lower,
-            upper: true,
-        },
-        Polarity::Negative => Begun {
-            lower: true,
-            upper: g.upper,
-        },
+        Polarity::Positive => Begun { upper: true, ..g },
+        Polarity::Negative => Begun { lower: true, ..g },
     }
 }

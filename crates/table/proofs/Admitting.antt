@@ -19,9 +19,13 @@ use Rattle.text.specs.Reads.{span, Above}
 use Rattle.text.proofs.Spans.{span_same, span_length}
 use Rattle.table.specs.declared.Table.{Table}
 use Rattle.table.specs.declared.judging.Progress.{Progress}
-use Rattle.table.specs.declared.judging.Verdict.{Verdict}
-use Rattle.table.specs.declared.judging.Verdict.TheVariants.{Taken as TakenV, Fault}
-use Rattle.table.specs.Rows.{begin_at, count_row, over_by, name_after, ascends_by, Fine, advance_by, judge_by, row_at, bare, table_at, budget_by, reading_of, Layout}
+use Rattle.table.specs.declared.judging.Section.{Section}
+use Rattle.std.specs.Prelude as std
+use Rattle.rules.specs.Refusals.{number}
+use Rattle.std.specs.Prelude.{Ok, Err}
+use Rattle.rules.specs.declared.Refusal.{Refusal}
+use Rattle.rules.specs.declared.Refusal.TheVariants.{Form, Ceiling, Ascent, Frozen}
+use Rattle.table.specs.Rows.{begin_at, number_of_section, stage_of, count_row, over_by, name_after, ascends_by, Fine, advance_by, judge_by, row_at, bare, table_at, budget_by, reading_of, Layout}
 use Rattle.table.proofs.Growing.{begun_in_order, built, bare_snoc}
 
 zero_or : (n : ℕ) → (n ≡ 0) ⊎ (n ≡ 0 → ⊥)
@@ -36,7 +40,7 @@ module _ (p : Progress) (w w' : List ℕ) (f : Fine p) (l : Layout p w) (a : Abo
       (λ e. let n = f.no_names (omega arith) in let m = f.no_entries (omega arith) in let o = f.no_pairs (omega arith) in let q = f.no_marks
       (omega arith) in let r = f.no_roots (omega arith) in omega arith)
       (λ e. let b = f.begun e in omega arith)
-      (zero_or p.stage)
+      (zero_or (stage_of p))
 
   begin_same : (k : ℕ) → k ≤ p.lines → begin_at w k ≡ begin_at w' k
   begin_same k h = sym (a.below (rows_at + k) (omega (arith, l.behind p.lines (omega arith), l.ends, f.few_lines)))
@@ -58,14 +62,14 @@ module _ (p : Progress) (w w' : List ℕ) (f : Fine p) (l : Layout p w) (a : Abo
   run_same : (b n : ℕ) → 1 ≤ b → b + n ≤ 1 + p.table.names + p.table.entries + p.table.pairs + p.table.marks + p.table.roots → run (row_at w) b n ≡ run (row_at w') b n
   run_same b n low high = run_ext (row_at w) (row_at w') b n (λ k x y. row_same k (inside k (omega arith) (omega arith)))
 
-  budget_same : budget_by p.stage w ≡ budget_by p.stage w'
+  budget_same : budget_by (stage_of p) w ≡ budget_by (stage_of p) w'
   budget_same =
       ⊎_elim
-      (λ e. simp (eq-eqb p.stage 0 e))
-      (λ e. let b = f.begun e in let z = row_same 0 (omega arith) in simp (ne_eqb p.stage 0 e) (ap (λ (r : List ℕ). cell r 1) z))
-      (zero_or p.stage)
+      (λ e. simp (eq-eqb (stage_of p) 0 e))
+      (λ e. let b = f.begun e in let z = row_same 0 (omega arith) in simp (ne_eqb (stage_of p) 0 e) (ap (λ (r : List ℕ). cell r 1) z))
+      (zero_or (stage_of p))
 
-  table_same : table_at (budget_by p.stage w) p.table w ≡ table_at (budget_by p.stage w') p.table w'
+  table_same : table_at (budget_by (stage_of p) w) p.table w ≡ table_at (budget_by (stage_of p) w') p.table w'
   table_same =
       built budget_same
       (ap bare (run_same 1 p.table.names (omega arith) (omega arith)))
@@ -75,7 +79,7 @@ module _ (p : Progress) (w w' : List ℕ) (f : Fine p) (l : Layout p w) (a : Abo
       (ap bare (run_same (1 + p.table.names + p.table.entries + p.table.pairs + p.table.marks) p.table.roots (omega arith) (omega arith)))
 
   pub reading_same : reading_of p w ≡ reading_of p w'
-  reading_same = ap (λ (t : rules.Sections). record { stage = p.stage; ids = p.ids; table = t }) table_same
+  reading_same = ap (λ (t : rules.Sections). record { stage = (stage_of p); ids = p.ids; table = t }) table_same
 
 -- the ceilings, by counts
 abbrev lengths_of : rules.Sections → Table
@@ -139,8 +143,8 @@ module _ (p : Progress) (w : List ℕ) (to : ℕ) where
       ≡ over (add (reading_of p w) sec (span w p.top to)) sec (span w p.top to)
   over_same sec =
       let sizes : count_row p.table sec
-      ≡ lengths_of (add_row (table_at (budget_by p.stage w) p.table w) sec (span w p.top to)) = ap (λ (t : Table). count_row t sec)
-      (sym (lengths_at (budget_by p.stage w) p.table w)) ∙ sym (lengths_add (table_at (budget_by p.stage w) p.table w) sec (span w p.top to)) in
+      ≡ lengths_of (add_row (table_at (budget_by (stage_of p) w) p.table w) sec (span w p.top to)) = ap (λ (t : Table). count_row t sec)
+      (sym (lengths_at (budget_by (stage_of p) w) p.table w)) ∙ sym (lengths_add (table_at (budget_by (stage_of p) w) p.table w) sec (span w p.top to)) in
       let size : (to - p.top) - 1 ≡ length (drop 1 (span w p.top to)) = let a = length-drop 1 (span w p.top to) in let b = span_length w p.top to in omega arith in
       ap₂ {C = Bool} (λ (t : Table) (n : ℕ). over_by t (p.ids + row_weight sec (span w p.top to)) sec n) sizes size
 
@@ -174,12 +178,12 @@ module _ (p : Progress) (w : List ℕ) (to : ℕ) (f : Fine p) (l : Layout p w) 
       ∙ sym (after_last_lem (bare (run (row_at w) 1 m)) (drop 1 (row_at w (1 + m))) (drop 1 (span w p.top to)))
       ∙ ap (λ (x : List (List ℕ)). after_last x (drop 1 (span w p.top to))) (sym (ap bare (run_snoc (row_at w) 1 m) ∙ bare_snoc (run (row_at w) 1 m) (row_at w (1 + m)))))
 
-  ascends_same : (sec : ℕ) → in_order p.stage sec ≡ true → ascends_by p w to sec ≡ ascends (table_at (budget_by p.stage w) p.table w) sec (span w p.top to)
+  ascends_same : (sec : ℕ) → in_order (stage_of p) sec ≡ true → ascends_by p w to sec ≡ ascends (table_at (budget_by (stage_of p) w) p.table w) sec (span w p.top to)
   ascends_same sec h =
       if_at (eqb sec 1) (name_after p w to) (after_last (bare (run (row_at w) 1 p.table.names)) (drop 1 (span w p.top to)))
       (if (eqb sec 2) (λ _. keys_ascend (as_set (entry_of (span w p.top to)))) (λ _. true))
       (λ q.
-      let o = begun_in_order p.stage 0 (subst (λ (k : ℕ). in_order p.stage k ≡ true) (eqb-true sec 1 q) h) in
+      let o = begun_in_order (stage_of p) 0 (subst (λ (k : ℕ). in_order (stage_of p) k ≡ true) (eqb-true sec 1 q) h) in
       let b = f.begun o.0 in
       let le = o.1 in
       let ze = f.no_entries (omega arith) in
@@ -189,12 +193,12 @@ module _ (p : Progress) (w : List ℕ) (to : ℕ) (f : Fine p) (l : Layout p w) 
       names_by p.table.names refl (omega arith))
 
 -- what the code says of a row, as the rules say it; z is the reading with the row
-abbrev pub said : Verdict → Reading → Admission
-said (TakenV q) z = admitted z
-said (Fault k) z = fault k
+abbrev pub said : std.Result Progress Refusal → Reading → Admission
+said (Ok q) z = admitted z
+said (Err k) z = fault (number k)
 
 push : (a b c d : Bool) (n : Progress) (z : Reading)
-    → said (if a (λ _. if b (λ _. Fault 2) (λ _. if c (λ _. if d (λ _. Fault 5) (λ _. TakenV n)) (λ _. Fault 4))) (λ _. Fault 1)) z
+    → said (if a (λ _. if b (λ _. Err Ceiling) (λ _. if c (λ _. if d (λ _. Err Frozen) (λ _. Ok n)) (λ _. Err Ascent))) (λ _. Err Form)) z
     ≡ if a (λ _. if b (λ _. fault 2) (λ _. if c (λ _. if d (λ _. fault 5) (λ _. admitted z)) (λ _. fault 4))) (λ _. fault 1)
 push false b c d n z = refl
 push true true c d n z = refl
@@ -203,7 +207,7 @@ push true false true true n z = refl
 push true false true false n z = refl
 
 -- a row that is taken was in order, and leads on
-pub passed : (a b c d : Bool) (q n : Progress) → TakenV q ≡ if a (λ _. if b (λ _. Fault 2) (λ _. if c (λ _. if d (λ _. Fault 5) (λ _. TakenV n)) (λ _. Fault 4))) (λ _. Fault 1) → (a ≡ true) × (q ≡ n)
+pub passed : (a b c d : Bool) (q n : Progress) → Ok q ≡ if a (λ _. if b (λ _. Err Ceiling) (λ _. if c (λ _. if d (λ _. Err Frozen) (λ _. Ok n)) (λ _. Err Ascent))) (λ _. Err Form) → (a ≡ true) × (q ≡ n)
 passed false b c d q n e = absurd (let z : ◌≡◌ {A = ℕ} 0 1 = cc in omega arith)
 passed true true c d q n e = absurd (let z : ◌≡◌ {A = ℕ} 0 1 = cc in omega arith)
 passed true false false d q n e = absurd (let z : ◌≡◌ {A = ℕ} 0 1 = cc in omega arith)
@@ -215,13 +219,13 @@ if_when true x y z h = h refl
 if_when false x y z h = refl
 
 module _ (p : Progress) (w : List ℕ) (to : ℕ) (f : Fine p) (l : Layout p w) where
-  pub admitted_by : (sec : ℕ) → said (judge_by p w to sec) (add (reading_of p w) sec (span w p.top to)) ≡ admit (reading_of p w) sec (span w p.top to)
-  admitted_by sec =
-      push (in_order p.stage sec) (over_by (count_row p.table sec) (p.ids + row_weight sec (span w p.top to)) sec ((to - p.top) - 1))
-      (ascends_by p w to sec) (eqb (cell (span w p.top to) 0) frozen_entry) (advance_by p sec (row_weight sec (span w p.top to)) to)
-      (add (reading_of p w) sec (span w p.top to))
-      ∙ if_when (in_order p.stage sec) _ _ (fault 1)
+  pub admitted_by : (s : Section) → said (judge_by p w to s) (add (reading_of p w) (number_of_section s) (span w p.top to)) ≡ admit (reading_of p w) (number_of_section s) (span w p.top to)
+  admitted_by s =
+      push (in_order (stage_of p) (number_of_section s)) (over_by (count_row p.table (number_of_section s)) (p.ids + row_weight (number_of_section s) (span w p.top to)) (number_of_section s) ((to - p.top) - 1))
+      (ascends_by p w to (number_of_section s)) (eqb (cell (span w p.top to) 0) frozen_entry) (advance_by p s (row_weight (number_of_section s) (span w p.top to)) to)
+      (add (reading_of p w) (number_of_section s) (span w p.top to))
+      ∙ if_when (in_order (stage_of p) (number_of_section s)) _ _ (fault 1)
       (λ h. ap₂ {C = Admission}
       (λ (b c : Bool). if b (λ _. fault 2)
-      (λ _. if c (λ _. if (eqb (cell (span w p.top to) 0) frozen_entry) (λ _. fault 5) (λ _. admitted (add (reading_of p w) sec (span w p.top to))))
-      (λ _. fault 4))) (over_same p w to sec) (ascends_same p w to f l sec h))
+      (λ _. if c (λ _. if (eqb (cell (span w p.top to) 0) frozen_entry) (λ _. fault 5) (λ _. admitted (add (reading_of p w) (number_of_section s) (span w p.top to))))
+      (λ _. fault 4))) (over_same p w to (number_of_section s)) (ascends_same p w to f l (number_of_section s) h))

@@ -6,6 +6,8 @@ use native.Mathlib.Omega.{arith}
 use mathlib.Core.List.{List}
 use lib.ListN.{get_or-eq_default}
 use lib.Dec.{eqb, ltb}
+use mathlib.Core.Logic.{⊎_elim}
+use Rattle.std.proofs.lemmas.Bool.{cases_lt}
 use borrow.Author.Tests.{lt-ltb, le-ltb, eq-eqb, ne_eqb}
 use Rattle.cells.specs.Part.{cell, if}
 use Rattle.cells.proofs.Parts.{run_get_d}
@@ -16,14 +18,11 @@ use Rattle.text.proofs.Spans.{span_none, span_next, span_length}
 use Rattle.table.specs.Rows.{At, every, Steps, Ascend, Below, Before}
 
 module _ {w : List ℕ} {from to k : ℕ} where
-  pub at_past : to - from ≤ k → At w from to k 0
-  at_past h = record { is = sym (get_or-eq_default (span w from to) 0 (let l = span_length w from to in omega arith)) }
+  pub at_past : {n : ℕ} → n ≡ to - from → n ≤ k → At w from to k 0
+  at_past e h = record { is = sym (get_or-eq_default (span w from to) 0 (let l = span_length w from to in omega arith)) }
 
-  pub at_none : to ≤ from → At w from to k 0
-  at_none h = at_past (omega arith)
-
-  pub at_here : {r : ℕ} → k < to - from → r ≡ cell w (from + k) → At w from to k r
-  at_here h e = record { is = e ∙ sym (run_get_d (cell w) from (to - from) k 0 h) }
+  pub at_here : {n r : ℕ} → n ≡ to - from → k < n → r ≡ cell w (from + k) → At w from to k r
+  at_here q h e = record { is = e ∙ sym (run_get_d (cell w) from (to - from) k 0 (omega arith)) }
 
 -- every .. at equal arguments
 pub every_at : (row : List ℕ) (step a n n' : ℕ) → n ≡ n' → every row step a n ≡ every row step a n'
@@ -99,11 +98,10 @@ module _ {w : List ℕ} {a m b t i k : ℕ} (inv : Comparing w a m b t i k) wher
   pub compare_short : i < m → t ≤ k → Before w a m b t false
   compare_short h l = record { is = rw (span_next w i m h, span_none w k t l) at inv.is }
 
-  pub compare_more_left : m ≤ i → k < t → Before w a m b t true
-  compare_more_left h l = record { is = rw (span_none w i m h, span_next w k t l) at inv.is }
-
-  pub compare_same : m ≤ i → t ≤ k → Before w a m b t false
-  compare_same h l = record { is = rw (span_none w i m h, span_none w k t l) at inv.is }
+  pub compare_end : m ≤ i → Before w a m b t (ltb k t)
+  compare_end h =
+      ⊎_elim (λ (l : k < t). record { is = simp (lt-ltb k t l) (rw (span_none w i m h, span_next w k t l) at inv.is) })
+      (λ (l : t ≤ k). record { is = simp (le-ltb k t l) (rw (span_none w i m h, span_none w k t l) at inv.is) }) (cases_lt k t)
 
   module _ {x y : ℕ} (h : i < m) (l : k < t) (e : x ≡ cell w i) (f : y ≡ cell w k) where
     turn3 : if (eqb x y) (λ _. before (span w (i + 1) m) (span w (k + 1) t)) (λ _. ltb x y) ≡ before (span w a m) (span w b t)

@@ -1,13 +1,17 @@
 -- Entries by their rows: how many ids and keys they have, and whether their keys ascend. Assumes nothing.
-use mathlib.Core.Path.{◌≡◌, refl, sym, ap, ap₂, ◌∙◌}
-use mathlib.Core.Bool.{Bool, true, false}
-use Prim.Native.Nat.{ℕ, zero, suc, ◌+◌, ◌*◌, ◌≤◌, ◌<◌}
+use mathlib.Core.Path.{◌≡◌, refl, sym, ap, ap₂, ◌∙◌, subst}
+use mathlib.Core.Bool.{Bool, true, false, not}
+use Prim.Native.Nat.{ℕ, zero, suc, ◌+◌, ◌*◌, ◌≤◌, ◌<◌, min}
 use native.Mathlib.Omega.{arith}
 use native.Mathlib.Numerals.{add-one}
 use mathlib.Core.List.{List, ◌∷◌}
 use lib.ListN.{length, length-append}
 use lib.Dec.{eqb}
-use borrow.Author.Tests.{eq-eqb, ne_eqb}
+use borrow.Author.Tests.{eq-eqb, ne_eqb, eqb-true, eqb-false}
+use denote.Enum.Bare.{sameb}
+use Rattle.table.specs.contracts.kinds.Kind.{the_type}
+use Rattle.table.specs.declared.kinds.Kind.{Kind}
+use Rattle.table.specs.declared.kinds.Kind.TheVariants.{Var, List as ListOf, Fn, Set, Neg, Named, Inter, Union, Frozen, Other}
 use Rattle.cells.specs.Part.{cell, part, if}
 use Rattle.cells.proofs.Parts.{run_length}
 use Rattle.rules.specs.Plain.{both, ascending}
@@ -15,8 +19,9 @@ use Rattle.rules.specs.Table.{Entry, var, prim, tyvar, list, fn, set, neg, named
 use Rattle.rules.specs.Table.{field_types, field_keys, as_set, keys_ascend, weight}
 use Rattle.text.specs.Reads.{span}
 use Rattle.table.specs.declared.rows.Places.{Places}
-use Rattle.table.specs.Rows.{At, every, Ascend, Present, PlacedIn, Placed, PlainWeight, Weight, KeysAscend}
+use Rattle.table.specs.Rows.{At, every, Ascend, Present, PlacedIn, Placed, Unnamed, KindOf, Weight, KeysAscend}
 use mathlib.Core.Option.{none, some}
+use mathlib.Core.Logic.{◌⊎◌, inl, inr}
 
 -- the lists of a row, cell by cell
 keys_every : (row : List ℕ) (a n : ℕ) → field_keys (fields_at row a n) ≡ every row 2 a n
@@ -65,40 +70,43 @@ poor P k row p t f a b c d e g h i =
     pick false true = t
     pick false false = f
 
-module _ {kind : ℕ} where
-  plain : {r : ℕ} (k : ℕ) → kind ≡ k → r ≤ 2 → ((row : List ℕ) → r ≡ weight (entry_by k row)) → PlainWeight kind r
-  plain {r} k e s h = record { is = λ a b row q. h row ∙ ap weight (sym (by_kind row k (sym e ∙ q))); small = s }
+-- the code's tests of a kind
+pub is_set : (k : Kind) {n : ℕ} → KindOf n k → sameb the_type k Set ≡ eqb n 7
+is_set Var {n} h = let e = h.is in sym (ne_eqb n 7 (λ q. omega arith))
+is_set ListOf {n} h = let e = h.is in sym (ne_eqb n 7 (λ q. omega arith))
+is_set Fn {n} h = let e = h.is in sym (ne_eqb n 7 (λ q. omega arith))
+is_set Set {n} h = sym (eq-eqb n 7 h.is)
+is_set Neg {n} h = let e = h.is in sym (ne_eqb n 7 (λ q. omega arith))
+is_set Named {n} h = let e = h.is in sym (ne_eqb n 7 (λ q. omega arith))
+is_set Inter {n} h = let e = h.is in sym (ne_eqb n 7 (λ q. omega arith))
+is_set Union {n} h = let e = h.is in sym (ne_eqb n 7 (λ q. omega arith))
+is_set Frozen {n} h = let e = h.is in sym (ne_eqb n 7 (λ q. omega arith))
+is_set Other {n} h = sym (ne_eqb n 7 h.is.no_set)
 
-  pub plain_5 : kind ≡ 5 → PlainWeight kind 1
-  plain_5 e = plain 5 e (omega arith) (λ row. refl)
+pub set_of : {b : Bool} {n : ℕ} → b ≡ eqb n 7 → not b ≡ false → n ≡ 7
+set_of {b = true} {n} e h = eqb-true n 7 (sym e)
+set_of {b = false} e h = cc
 
-  pub plain_6 : kind ≡ 6 → PlainWeight kind 2
-  plain_6 e = plain 6 e (omega arith) (λ row. refl)
+pub no_set_of : {b : Bool} {n : ℕ} → b ≡ eqb n 7 → not b ≡ true → n ≡ 7 → ⊥
+no_set_of {b = false} {n} e h = eqb-false n 7 (sym e)
+no_set_of {b = true} e h = cc
 
-  pub plain_8 : kind ≡ 8 → PlainWeight kind 1
-  plain_8 e = plain 8 e (omega arith) (λ row. refl)
-
-  pub plain_9 : kind ≡ 9 → PlainWeight kind 1
-  plain_9 e = plain 9 e (omega arith) (λ row. refl)
-
-  pub plain_10 : kind ≡ 10 → PlainWeight kind 2
-  plain_10 e = plain 10 e (omega arith) (λ row. refl)
-
-  pub plain_11 : kind ≡ 11 → PlainWeight kind 2
-  plain_11 e = plain 11 e (omega arith) (λ row. refl)
-
-  pub plain_0 : (kind ≡ 5 → ⊥) → (kind ≡ 6 → ⊥) → (kind ≡ 8 → ⊥) → (kind ≡ 9 → ⊥) → (kind ≡ 10 → ⊥) → (kind ≡ 11 → ⊥) → PlainWeight kind 0
-  plain_0 a b c d e f = record {
-    is = λ x y row q. poor (λ (z : Entry). 0 ≡ weight z) kind row refl refl refl x a b y c d e f ∙ ap weight (sym (by_kind row kind q));
-    small = omega arith;
-  }
+pub is_frozen : (k : Kind) {n : ℕ} → KindOf n k → sameb the_type k Frozen ≡ eqb n 12
+is_frozen Var {n} h = let e = h.is in sym (ne_eqb n 12 (λ q. omega arith))
+is_frozen ListOf {n} h = let e = h.is in sym (ne_eqb n 12 (λ q. omega arith))
+is_frozen Fn {n} h = let e = h.is in sym (ne_eqb n 12 (λ q. omega arith))
+is_frozen Set {n} h = let e = h.is in sym (ne_eqb n 12 (λ q. omega arith))
+is_frozen Neg {n} h = let e = h.is in sym (ne_eqb n 12 (λ q. omega arith))
+is_frozen Named {n} h = let e = h.is in sym (ne_eqb n 12 (λ q. omega arith))
+is_frozen Inter {n} h = let e = h.is in sym (ne_eqb n 12 (λ q. omega arith))
+is_frozen Union {n} h = let e = h.is in sym (ne_eqb n 12 (λ q. omega arith))
+is_frozen Frozen {n} h = sym (eq-eqb n 12 h.is)
+is_frozen Other {n} h = sym (ne_eqb n 12 h.is.no_frozen)
 
 -- the places of a set
-pub present_0 : {x : ℕ} → x ≡ 0 → Present x 0
-present_0 {x} e = record { is = simp (eq-eqb x 0 e); small = omega arith }
-
-pub present_1 : {x : ℕ} → (x ≡ 0 → ⊥) → Present x 1
-present_1 {x} e = record { is = simp (ne_eqb x 0 e); small = omega arith }
+pub present_is : {r : ℕ} (x : ℕ) → r ≡ min x 1 → Present x r
+present_is zero e = record { is = e; small = omega arith }
+present_is (suc x) e = record { is = let z : min (suc x) 1 ≡ 1 = omega arith in simp (ne_eqb (suc x) 0 (λ (q : suc x ≡ 0). omega arith)) (e ∙ z); small = omega arith }
 
 module _ {w : List ℕ} {from to f d o h : ℕ} (a : At w from to 1 f) (b : At w from to (2 + 2 * f) d) (c : At w from to (2 + 2 * f + 1 + d + 1) o)
     (g : Present d h) (sf : f < 4294967296) (sd : d < 4294967296) (so : o < 4294967296) where
@@ -178,8 +186,31 @@ module _ {w : List ℕ} {from to kind : ℕ} (k : At w from to 0 kind) where
     small = omega (arith, q.is.few_fields, q.is.few_held, q.is.few_optional);
   }
 
-  pub weight_plain : {r : ℕ} → (kind ≡ 2 → ⊥) → (kind ≡ 7 → ⊥) → PlainWeight kind r → Weight w from to r
-  weight_plain a b p = record { is = p.is a b (span w from to) k.is; small = omega (arith, p.small) }
+  weight_at : {r : ℕ} (j : ℕ) → kind ≡ j → r ≡ weight (entry_by j (span w from to)) → r ≤ 2 → Weight w from to r
+  weight_at {r} j e h s = record { is = h ∙ ap weight (sym (by_kind (span w from to) j (sym e ∙ k.is))); small = omega arith }
+
+  weight_other : Unnamed kind → Weight w from to 0
+  weight_other h = record {
+    is =
+        poor (λ (z : Entry). 0 ≡ weight z) kind (span w from to) refl refl refl h.no_var h.no_list h.no_fn h.no_set h.no_neg h.no_named h.no_inter h.no_union
+        ∙ ap weight (sym (by_kind (span w from to) kind k.is));
+    small = omega arith;
+  }
+
+  module _ {x : Kind} (h : KindOf kind x) where
+    pub weight_one : (x ≡ ListOf) ⊎ ((x ≡ Neg) ⊎ (x ≡ Named)) → Weight w from to 1
+    weight_one (inl e) = let j : KindOf kind ListOf = subst (KindOf kind) e h in weight_at 5 j.is refl (omega arith)
+    weight_one (inr (inl e)) = let j : KindOf kind Neg = subst (KindOf kind) e h in weight_at 8 j.is refl (omega arith)
+    weight_one (inr (inr e)) = let j : KindOf kind Named = subst (KindOf kind) e h in weight_at 9 j.is refl (omega arith)
+
+    pub weight_two : (x ≡ Fn) ⊎ ((x ≡ Inter) ⊎ (x ≡ Union)) → Weight w from to 2
+    weight_two (inl e) = let j : KindOf kind Fn = subst (KindOf kind) e h in weight_at 6 j.is refl (omega arith)
+    weight_two (inr (inl e)) = let j : KindOf kind Inter = subst (KindOf kind) e h in weight_at 10 j.is refl (omega arith)
+    weight_two (inr (inr e)) = let j : KindOf kind Union = subst (KindOf kind) e h in weight_at 11 j.is refl (omega arith)
+
+    pub weight_none : (x ≡ Frozen) ⊎ (x ≡ Other) → Weight w from to 0
+    weight_none (inl e) = let j : KindOf kind Frozen = subst (KindOf kind) e h in weight_at 12 j.is refl (omega arith)
+    weight_none (inr e) = let j : KindOf kind Other = subst (KindOf kind) e h in weight_other j.is
 
 -- the keys of a row
 no_set_if : (b : Bool) (x y : Unit {0} → Entry) → as_set (x tt) ≡ none → as_set (y tt) ≡ none → as_set (if b x y) ≡ none
@@ -206,5 +237,5 @@ module _ {w : List ℕ} {from to kind : ℕ} (k : At w from to 0 kind) where
     pub keys_yes : {c : Bool} → b ≡ true → Ascend w from to (p.opens + 2) 1 p.optional c → KeysAscend w from to c
     keys_yes h y = record { is = y.is ∙ sym (keys_are true h) }
 
-    pub keys_no : b ≡ false → KeysAscend w from to false
-    keys_no h = record { is = sym (keys_are false h) }
+    pub keys_no : b ≡ false → KeysAscend w from to b
+    keys_no h = record { is = h ∙ sym (keys_are false h) }

@@ -1,5 +1,5 @@
 -- One row more: the counts, the places, and the table that the rows are. Assumes nothing.
-use mathlib.Core.Path.{◌≡◌, refl, sym, ap, ap₂, ◌∙◌, subst}
+use mathlib.Core.Path.{◌≡◌, refl, sym, ap, ap₂, ◌∙◌}
 use mathlib.Core.Bool.{true}
 use Prim.Native.Nat.{ℕ, zero, suc, ◌+◌, ◌≤◌, ◌<◌}
 use native.Mathlib.Omega.{arith}
@@ -19,7 +19,9 @@ use Rattle.layout.specs.Layout.{rows_at, table_words, table_length}
 use Rattle.text.specs.Reads.{span}
 use Rattle.text.proofs.Spans.{span_before}
 use Rattle.table.specs.declared.judging.Progress.{Progress}
-use Rattle.table.specs.Rows.{most_lines, begin_at, Few, count_row, Fine, advance_by, row_at, bare, table_at, budget_by, Layout}
+use Rattle.table.specs.declared.judging.Section.{Section}
+use Rattle.table.specs.declared.judging.Section.TheVariants.{Budget, Names, Entries, Pairs, Marks, Roots}
+use Rattle.table.specs.Rows.{most_lines, begin_at, Few, number_of_section, stage_of, count_row, Fine, advance_by, row_at, bare, table_at, budget_by, Layout}
 
 -- what a row in order tells: it is the budget line and the first, or of a section that is not past
 in_order_lem : (stage sec : ℕ) → in_order stage sec ≡ true → ((stage ≡ 0) × (sec ≡ 0)) ⊎ ((stage ≡ 0 → ⊥) × (stage ≤ sec))
@@ -79,29 +81,18 @@ module _ (p : Progress) (w : List ℕ) (to : ℕ) (l : Layout p w) (few : p.line
   gain_bare a n h = sym (bare_snoc (run (row_at w) a n) (span w p.top to)) ∙ ap bare (gain a n h)
 
   module _ (f : Fine p) where
-    budget_kept : (p.stage ≡ 0 → ⊥) → budget_by p.stage w ≡ cell (row_at (noted w (p.lines + 1) to) 0) 1
+    budget_kept : (stage_of p ≡ 0 → ⊥) → budget_by (stage_of p) w ≡ cell (row_at (noted w (p.lines + 1) to) 0) 1
     budget_kept h =
         let b = f.begun h in
         let first : row_at w 0 ≡ row_at (noted w (p.lines + 1) to) 0 = sym (old_row 0 (omega arith)) in
-        simp (ne_eqb p.stage 0 h) (ap (λ (r : List ℕ). cell r 1) first)
-
-    late : (sec : ℕ) → 5 ≤ sec → (p.stage ≡ 0 → ⊥) → add_row (table_at (budget_by p.stage w) p.table w) sec (span w p.top to)
-        ≡ table_at (budget_by (stage_after sec) (noted w (p.lines + 1) to)) (count_row p.table sec) (noted w (p.lines + 1) to)
-    late sec five h =
-        let b = f.begun h in
-        simp (ne_eqb sec 0 (λ e. omega arith), ne_eqb sec 1 (λ e. omega arith), ne_eqb sec 2 (λ e. omega arith), ne_eqb sec 3 (λ e. omega arith), ne_eqb sec 4 (λ e. omega arith))
-        (built (budget_kept h)
-        (ap bare (keep 1 p.table.names (omega arith)))
-        (keep (1 + p.table.names) p.table.entries (omega arith))
-        (ap bare (keep (1 + p.table.names + p.table.entries) p.table.pairs (omega arith)))
-        (ap bare (keep (1 + p.table.names + p.table.entries + p.table.pairs) p.table.marks (omega arith)))
-        (gain_bare (1 + p.table.names + p.table.entries + p.table.pairs + p.table.marks) p.table.roots (omega arith)))
+        simp (ne_eqb (stage_of p) 0 h) (ap (λ (r : List ℕ). cell r 1) first)
 
     -- the table that the rows are, with one row more
-    pub grown : (sec : ℕ) → in_order p.stage sec ≡ true → add_row (table_at (budget_by p.stage w) p.table w) sec (span w p.top to)
-        ≡ table_at (budget_by (stage_after sec) (noted w (p.lines + 1) to)) (count_row p.table sec) (noted w (p.lines + 1) to)
-    grown zero h =
-        let o : p.stage ≡ 0 = ⊎_elim (λ q. q.0) (λ q. omega (arith, q.1)) (in_order_lem p.stage 0 h) in
+    pub grown : (s : Section) → in_order (stage_of p) (number_of_section s) ≡ true
+        → add_row (table_at (budget_by (stage_of p) w) p.table w) (number_of_section s) (span w p.top to)
+        ≡ table_at (budget_by (stage_after (number_of_section s)) (noted w (p.lines + 1) to)) (count_row p.table (number_of_section s)) (noted w (p.lines + 1) to)
+    grown Budget h =
+        let o : stage_of p ≡ 0 = ⊎_elim (λ q. q.0) (λ q. omega (arith, q.1)) (in_order_lem (stage_of p) 0 h) in
         let z = f.unbegun o in
         let first : span w p.top to ≡ row_at (noted w (p.lines + 1) to) 0 = sym new_row ∙ ap (row_at (noted w (p.lines + 1) to)) z in
         built (ap (λ (r : List ℕ). cell r 1) first)
@@ -113,8 +104,8 @@ module _ (p : Progress) (w : List ℕ) (to : ℕ) (l : Layout p w) (few : p.line
         (1 + p.table.names + p.table.entries + p.table.pairs) p.table.marks (f.no_marks (omega arith))))
         (ap bare (empty (row_at w) (row_at (noted w (p.lines + 1) to)) (1 + p.table.names + p.table.entries + p.table.pairs + p.table.marks)
         (1 + p.table.names + p.table.entries + p.table.pairs + p.table.marks) p.table.roots (f.no_roots (omega arith))))
-    grown (suc zero) h =
-        let o = begun_in_order p.stage 0 h in
+    grown Names h =
+        let o = begun_in_order (stage_of p) 0 h in
         let b = f.begun o.0 in
         let le = o.1 in
         let ze = f.no_entries (omega arith) in
@@ -129,8 +120,8 @@ module _ (p : Progress) (w : List ℕ) (to : ℕ) (l : Layout p w) (few : p.line
         (1 + (p.table.names + 1) + p.table.entries + p.table.pairs) p.table.marks zm))
         (ap bare (empty (row_at w) (row_at (noted w (p.lines + 1) to)) (1 + p.table.names + p.table.entries + p.table.pairs + p.table.marks)
         (1 + (p.table.names + 1) + p.table.entries + p.table.pairs + p.table.marks) p.table.roots zr))
-    grown (suc (suc zero)) h =
-        let o = begun_in_order p.stage 1 h in
+    grown Entries h =
+        let o = begun_in_order (stage_of p) 1 h in
         let b = f.begun o.0 in
         let le = o.1 in
         let zp = f.no_pairs (omega arith) in
@@ -144,8 +135,8 @@ module _ (p : Progress) (w : List ℕ) (to : ℕ) (l : Layout p w) (few : p.line
         (1 + p.table.names + (p.table.entries + 1) + p.table.pairs) p.table.marks zm))
         (ap bare (empty (row_at w) (row_at (noted w (p.lines + 1) to)) (1 + p.table.names + p.table.entries + p.table.pairs + p.table.marks)
         (1 + p.table.names + (p.table.entries + 1) + p.table.pairs + p.table.marks) p.table.roots zr))
-    grown (suc (suc (suc zero))) h =
-        let o = begun_in_order p.stage 2 h in
+    grown Pairs h =
+        let o = begun_in_order (stage_of p) 2 h in
         let b = f.begun o.0 in
         let le = o.1 in
         let zm = f.no_marks (omega arith) in
@@ -158,8 +149,8 @@ module _ (p : Progress) (w : List ℕ) (to : ℕ) (l : Layout p w) (few : p.line
         (1 + p.table.names + p.table.entries + (p.table.pairs + 1)) p.table.marks zm))
         (ap bare (empty (row_at w) (row_at (noted w (p.lines + 1) to)) (1 + p.table.names + p.table.entries + p.table.pairs + p.table.marks)
         (1 + p.table.names + p.table.entries + (p.table.pairs + 1) + p.table.marks) p.table.roots zr))
-    grown (suc (suc (suc (suc zero)))) h =
-        let o = begun_in_order p.stage 3 h in
+    grown Marks h =
+        let o = begun_in_order (stage_of p) 3 h in
         let b = f.begun o.0 in
         let le = o.1 in
         let zr = f.no_roots (omega arith) in
@@ -170,13 +161,21 @@ module _ (p : Progress) (w : List ℕ) (to : ℕ) (l : Layout p w) (few : p.line
         (gain_bare (1 + p.table.names + p.table.entries + p.table.pairs) p.table.marks (omega arith))
         (ap bare (empty (row_at w) (row_at (noted w (p.lines + 1) to)) (1 + p.table.names + p.table.entries + p.table.pairs + p.table.marks)
         (1 + p.table.names + p.table.entries + p.table.pairs + (p.table.marks + 1)) p.table.roots zr))
-    grown (suc (suc (suc (suc (suc n))))) h = late (suc (suc (suc (suc (suc n))))) (omega arith) (begun_in_order p.stage (suc (suc (suc (suc n)))) h).0
+    grown Roots h =
+        let o = begun_in_order (stage_of p) 4 h in
+        let b = f.begun o.0 in
+        built (budget_kept o.0)
+        (ap bare (keep 1 p.table.names (omega arith)))
+        (keep (1 + p.table.names) p.table.entries (omega arith))
+        (ap bare (keep (1 + p.table.names + p.table.entries) p.table.pairs (omega arith)))
+        (ap bare (keep (1 + p.table.names + p.table.entries + p.table.pairs) p.table.marks (omega arith)))
+        (gain_bare (1 + p.table.names + p.table.entries + p.table.pairs + p.table.marks) p.table.roots (omega arith))
 
 -- what is asked of the counts, part by part
-fine_of : {q : Progress} → Few q.table → q.ids ≤ most_ids → q.top ≤ table_length → q.lines ≤ most_lines → (q.stage ≡ 0 → q.lines ≡ 0)
-    → ((q.stage ≡ 0 → ⊥) → q.lines ≡ 1 + q.table.names + q.table.entries + q.table.pairs + q.table.marks + q.table.roots)
-    → (q.stage ≤ 0 → q.table.names ≡ 0) → (q.stage ≤ 1 → q.table.entries ≡ 0) → (q.stage ≤ 2 → q.table.pairs ≡ 0)
-    → (q.stage ≤ 3 → q.table.marks ≡ 0) → (q.stage ≤ 4 → q.table.roots ≡ 0) → Fine q
+fine_of : {q : Progress} → Few q.table → q.ids ≤ most_ids → q.top ≤ table_length → q.lines ≤ most_lines → (stage_of q ≡ 0 → q.lines ≡ 0)
+    → ((stage_of q ≡ 0 → ⊥) → q.lines ≡ 1 + q.table.names + q.table.entries + q.table.pairs + q.table.marks + q.table.roots)
+    → (stage_of q ≤ 0 → q.table.names ≡ 0) → (stage_of q ≤ 1 → q.table.entries ≡ 0) → (stage_of q ≤ 2 → q.table.pairs ≡ 0)
+    → (stage_of q ≤ 3 → q.table.marks ≡ 0) → (stage_of q ≤ 4 → q.table.roots ≡ 0) → Fine q
 fine_of few ids low lines none some names entries pairs marks roots = record {
   few = few;
   few_ids = ids;
@@ -193,20 +192,9 @@ fine_of few ids low lines none some names entries pairs marks roots = record {
 
 -- the counts, with one row more
 module _ (p : Progress) (f : Fine p) (x to : ℕ) where
-  late_counts : (sec : ℕ) → 5 ≤ sec → advance_by p sec x to
-      ≡ record {
-        stage = sec;
-        lines = p.lines + 1;
-        top = to;
-        ids = p.ids + x;
-        table = record
-            { names = p.table.names; entries = p.table.entries; pairs = p.table.pairs; marks = p.table.marks; roots = p.table.roots + 1 };
-      }
-  late_counts sec five = simp (ne_eqb sec 0 (λ e. omega arith), ne_eqb sec 1 (λ e. omega arith), ne_eqb sec 2 (λ e. omega arith), ne_eqb sec 3 (λ e. omega arith), ne_eqb sec 4 (λ e. omega arith))
-
-  pub fine_grown : (sec : ℕ) → in_order p.stage sec ≡ true → Few (advance_by p sec x to).table → p.ids + x ≤ most_ids → to ≤ table_length → Fine (advance_by p sec x to)
-  fine_grown zero h few ids low =
-      let o : p.stage ≡ 0 = ⊎_elim (λ q. q.0) (λ q. omega (arith, q.1)) (in_order_lem p.stage 0 h) in
+  pub fine_grown : (s : Section) → in_order (stage_of p) (number_of_section s) ≡ true → Few (advance_by p s x to).table → p.ids + x ≤ most_ids → to ≤ table_length → Fine (advance_by p s x to)
+  fine_grown Budget h few ids low =
+      let o : stage_of p ≡ 0 = ⊎_elim (λ q. q.0) (λ q. omega (arith, q.1)) (in_order_lem (stage_of p) 0 h) in
       let z = f.unbegun o in
       let zn = f.no_names (omega arith) in
       let ze = f.no_entries (omega arith) in
@@ -214,8 +202,8 @@ module _ (p : Progress) (f : Fine p) (x to : ℕ) where
       let zm = f.no_marks (omega arith) in
       let zr = f.no_roots (omega arith) in
       fine_of few ids low (omega arith) (λ e. omega arith) (λ e. omega arith) (λ e. omega arith) (λ e. omega arith) (λ e. omega arith) (λ e. omega arith) (λ e. omega arith)
-  fine_grown (suc zero) h few ids low =
-      let o = begun_in_order p.stage 0 h in
+  fine_grown Names h few ids low =
+      let o = begun_in_order (stage_of p) 0 h in
       let b = f.begun o.0 in
       let le = o.1 in
       let ze = f.no_entries (omega arith) in
@@ -223,40 +211,31 @@ module _ (p : Progress) (f : Fine p) (x to : ℕ) where
       let zm = f.no_marks (omega arith) in
       let zr = f.no_roots (omega arith) in
       fine_of few ids low (omega arith) (λ e. omega arith) (λ e. omega arith) (λ e. omega arith) (λ e. omega arith) (λ e. omega arith) (λ e. omega arith) (λ e. omega arith)
-  fine_grown (suc (suc zero)) h few ids low =
-      let o = begun_in_order p.stage 1 h in
+  fine_grown Entries h few ids low =
+      let o = begun_in_order (stage_of p) 1 h in
       let b = f.begun o.0 in
       let le = o.1 in
       let zp = f.no_pairs (omega arith) in
       let zm = f.no_marks (omega arith) in
       let zr = f.no_roots (omega arith) in
       fine_of few ids low (omega arith) (λ e. omega arith) (λ e. omega arith) (λ e. omega arith) (λ e. omega arith) (λ e. omega arith) (λ e. omega arith) (λ e. omega arith)
-  fine_grown (suc (suc (suc zero))) h few ids low =
-      let o = begun_in_order p.stage 2 h in
+  fine_grown Pairs h few ids low =
+      let o = begun_in_order (stage_of p) 2 h in
       let b = f.begun o.0 in
       let le = o.1 in
       let zm = f.no_marks (omega arith) in
       let zr = f.no_roots (omega arith) in
       fine_of few ids low (omega arith) (λ e. omega arith) (λ e. omega arith) (λ e. omega arith) (λ e. omega arith) (λ e. omega arith) (λ e. omega arith) (λ e. omega arith)
-  fine_grown (suc (suc (suc (suc zero)))) h few ids low =
-      let o = begun_in_order p.stage 3 h in
+  fine_grown Marks h few ids low =
+      let o = begun_in_order (stage_of p) 3 h in
       let b = f.begun o.0 in
       let le = o.1 in
       let zr = f.no_roots (omega arith) in
       fine_of few ids low (omega arith) (λ e. omega arith) (λ e. omega arith) (λ e. omega arith) (λ e. omega arith) (λ e. omega arith) (λ e. omega arith) (λ e. omega arith)
-  fine_grown (suc (suc (suc (suc (suc n))))) h few ids low =
-      let e = late_counts (suc (suc (suc (suc (suc n))))) (omega arith) in
-      let o = begun_in_order p.stage (suc (suc (suc (suc n)))) h in
+  fine_grown Roots h few ids low =
+      let o = begun_in_order (stage_of p) 4 h in
       let b = f.begun o.0 in
-      let g : Few (record {
-        names = p.table.names;
-        entries = p.table.entries;
-        pairs = p.table.pairs;
-        marks = p.table.marks;
-        roots = p.table.roots + 1;
-      }) = subst (λ (q : Progress). Few q.table) e few in
-      subst Fine (sym e)
-      (fine_of g ids low (omega arith) (λ e. omega arith) (λ e. omega arith) (λ e. omega arith) (λ e. omega arith) (λ e. omega arith) (λ e. omega arith) (λ e. omega arith))
+      fine_of few ids low (omega arith) (λ e. omega arith) (λ e. omega arith) (λ e. omega arith) (λ e. omega arith) (λ e. omega arith) (λ e. omega arith) (λ e. omega arith)
 
 -- the places, with one row more
 module _ (p : Progress) (w : List ℕ) (to : ℕ) (l : Layout p w) (few : p.lines + 1 ≤ most_lines) (room : table_length ≤ length w) (up : p.top ≤ to)

@@ -1,5 +1,5 @@
 -- Ids and name numbers in range: rows, entries, roots. Assumes nothing.
-use mathlib.Core.Path.{◌≡◌, refl, sym, ap, ap₂, ◌∙◌}
+use mathlib.Core.Path.{◌≡◌, refl, sym, ap, ap₂, ◌∙◌, subst}
 use mathlib.Core.Bool.{Bool, true, false}
 use Prim.Native.Nat.{ℕ, suc, ◌+◌, ◌-◌, ◌≤◌, ◌<◌}
 use native.Mathlib.Omega.{arith}
@@ -12,11 +12,15 @@ use Rattle.cells.proofs.Choices.{if_self}
 use Rattle.rules.specs.Plain.{both}
 use Rattle.rules.specs.Table.{Entry, var, attr_at, attr_kids, field_types, field_keys, dyn_ids, entry_of, kids, all_below, in_range, Result, accepted, refused, known}
 use Rattle.text.specs.Reads.{span}
+use mathlib.Core.Logic.{◌⊎◌, inl, inr}
 use Rattle.table.specs.declared.Table.{Table}
+use Rattle.table.specs.declared.kinds.Kind.{Kind}
+use Rattle.table.specs.declared.kinds.Kind.TheVariants.{List as ListOf, Fn, Neg, Inter, Union, Frozen, Other}
 use Rattle.table.specs.declared.rows.Places.{Places}
-use Rattle.table.specs.declared.Answer.TheVariants.{Accepted, Refused}
-use Rattle.table.specs.Rows.{begin_at, Begin, At, every, Below, PlacedIn, Placed, VarKnown, SetKnown, KeysKnown, NamedKnown, PlainKnown, EntryKnown, row_at, bare}
-use Rattle.table.specs.Rows.{passing, EntriesKnown, RootsKnown}
+use Rattle.std.specs.Prelude.{Ok, Err}
+use Rattle.rules.specs.declared.Refusal.TheVariants.{Range}
+use Rattle.table.specs.Rows.{begin_at, Begin, At, every, Below, PlacedIn, Placed, VarKnown, SetKnown, KeysKnown, NamedKnown, Unnamed, KindOf, EntryKnown, row_at, bare}
+use Rattle.table.specs.Rows.{EntriesKnown, RootsKnown}
 use Rattle.table.proofs.Entries.{part_every, entry_by, by_kind, poor, set_keys, set_types, set_optional, set_dyn}
 
 both_if : (b x : Bool) (a c : Bool) → a ≡ both c (λ _. x) → if b (λ _. a) (λ _. false) ≡ both (if b (λ _. c) (λ _. false)) (λ _. x)
@@ -65,8 +69,8 @@ module _ (row : List ℕ) (p : Places) (q : PlacedIn row p) (n : ℕ) where
 
 module _ {w : List ℕ} {from to n : ℕ} {p : Places} {b : Bool} (q : Placed w from to p) where
   module _ (y : Below w from to 3 2 p.fields n b) where
-    pub set_no : b ≡ false → SetKnown w from to n false
-    set_no h = record { is = sym (kids_split (span w from to) p q.is n ∙ ap (λ (z : Bool). both z (λ _. all_below n (every (span w from to) 1 (p.dynamic + 1) p.held))) (sym y.is ∙ h)) }
+    pub set_no : b ≡ false → SetKnown w from to n b
+    set_no h = record { is = h ∙ sym (kids_split (span w from to) p q.is n ∙ ap (λ (z : Bool). both z (λ _. all_below n (every (span w from to) 1 (p.dynamic + 1) p.held))) (sym y.is ∙ h)) }
 
     pub set_yes : {d : Bool} → b ≡ true → Below w from to (p.dynamic + 1) 1 p.held n d → SetKnown w from to n d
     set_yes h v = record {
@@ -76,8 +80,8 @@ module _ {w : List ℕ} {from to n : ℕ} {p : Places} {b : Bool} (q : Placed w 
     }
 
   module _ (y : Below w from to 2 2 p.fields n b) where
-    pub keyset_no : b ≡ false → KeysKnown w from to n false
-    keyset_no h = record { is = sym (keys_split (span w from to) p q.is n ∙ ap (λ (z : Bool). both z (λ _. all_below n (every (span w from to) 1 (p.opens + 2) p.optional))) (sym y.is ∙ h)) }
+    pub keyset_no : b ≡ false → KeysKnown w from to n b
+    keyset_no h = record { is = h ∙ sym (keys_split (span w from to) p q.is n ∙ ap (λ (z : Bool). both z (λ _. all_below n (every (span w from to) 1 (p.opens + 2) p.optional))) (sym y.is ∙ h)) }
 
     pub keyset_yes : {d : Bool} → b ≡ true → Below w from to (p.opens + 2) 1 p.optional n d → KeysKnown w from to n d
     keyset_yes h v = record {
@@ -86,41 +90,13 @@ module _ {w : List ℕ} {from to n : ℕ} {p : Places} {b : Bool} (q : Placed w 
     }
 
 module _ {w : List ℕ} {from to n names : ℕ} {b : Bool} (y : Below w from to 2 1 1 n b) where
-  pub named_no : b ≡ false → NamedKnown w from to n names false
-  named_no h = record { is = ap (λ (z : Bool). both z (λ _. all_below names (cell (span w from to) 1 ∷ []))) (sym h ∙ y.is) }
+  pub named_no : b ≡ false → NamedKnown w from to n names b
+  named_no h = record { is = h ∙ ap (λ (z : Bool). both z (λ _. all_below names (cell (span w from to) 1 ∷ []))) (sym h ∙ y.is) }
 
   pub named_yes : {d : Bool} → b ≡ true → Below w from to 1 1 1 names d → NamedKnown w from to n names d
   named_yes h v = record { is = v.is ∙ ap (λ (z : Bool). both z (λ _. all_below names (cell (span w from to) 1 ∷ []))) (sym h ∙ y.is) }
 
 -- an entry
-module _ {w : List ℕ} {from to kind n names : ℕ} {b : Bool} where
-  at_kind : (k : ℕ) → kind ≡ k → b ≡ in_range n names (entry_by k (span w from to)) → PlainKnown w from to kind n names b
-  at_kind k e h = record { is = λ x y q. h ∙ ap (in_range n names) (sym (by_kind (span w from to) k (sym e ∙ q))) }
-
-  pub known_5 : kind ≡ 5 → Below w from to 1 1 1 n b → PlainKnown w from to kind n names b
-  known_5 e h = at_kind 5 e (h.is ∙ sym (if_self (all_below n (cell (span w from to) 1 ∷ []))))
-
-  pub known_8 : kind ≡ 8 → Below w from to 1 1 1 n b → PlainKnown w from to kind n names b
-  known_8 e h = at_kind 8 e (h.is ∙ sym (if_self (all_below n (cell (span w from to) 1 ∷ []))))
-
-  pub known_6 : kind ≡ 6 → Below w from to 1 1 2 n b → PlainKnown w from to kind n names b
-  known_6 e h = at_kind 6 e (h.is ∙ sym (if_self (all_below n (cell (span w from to) 1 ∷ cell (span w from to) 2 ∷ []))))
-
-  pub known_10 : kind ≡ 10 → Below w from to 1 1 2 n b → PlainKnown w from to kind n names b
-  known_10 e h = at_kind 10 e (h.is ∙ sym (if_self (all_below n (cell (span w from to) 1 ∷ cell (span w from to) 2 ∷ []))))
-
-  pub known_11 : kind ≡ 11 → Below w from to 1 1 2 n b → PlainKnown w from to kind n names b
-  known_11 e h = at_kind 11 e (h.is ∙ sym (if_self (all_below n (cell (span w from to) 1 ∷ cell (span w from to) 2 ∷ []))))
-
-  pub known_9 : kind ≡ 9 → NamedKnown w from to n names b → PlainKnown w from to kind n names b
-  known_9 e h = at_kind 9 e h.is
-
-pub known_else : {w : List ℕ} {from to kind n names : ℕ} → (kind ≡ 5 → ⊥) → (kind ≡ 8 → ⊥) → (kind ≡ 6 → ⊥) → (kind ≡ 10 → ⊥) → (kind ≡ 11 → ⊥) → (kind ≡ 9 → ⊥)
-    → PlainKnown w from to kind n names true
-known_else {w} {from} {to} {kind} {n} {names} a b c d e f = record {
-  is = λ x y q. poor (λ (z : Entry). true ≡ in_range n names z) kind (span w from to) refl refl refl x a c y b f d e ∙ ap (in_range n names) (sym (by_kind (span w from to) kind q));
-}
-
 set_range : (w : List ℕ) (from to n names kind : ℕ) (b : Bool) → At w from to 0 kind → kind ≡ 7 → SetKnown w from to n b → (c : Bool) → b ≡ c
     → in_range n names (entry_of (span w from to))
     ≡ both c (λ _. all_below names (field_keys (attr_at (span w from to) 1).fields ++ (attr_at (span w from to) 1).optional))
@@ -137,15 +113,43 @@ module _ {w : List ℕ} {from to n names kind : ℕ} {b : Bool} (k : At w from t
         ∙ ap (in_range n names) (sym (by_kind (span w from to) 2 (sym e ∙ k.is)));
   }
 
-  pub entry_plain : (kind ≡ 2 → ⊥) → (kind ≡ 7 → ⊥) → PlainKnown w from to kind n names b → EntryKnown w from to n names b
-  entry_plain f g h = record { is = h.is f g k.is }
+  at_kind : (j : ℕ) → kind ≡ j → b ≡ in_range n names (entry_by j (span w from to)) → EntryKnown w from to n names b
+  at_kind j e h = record { is = h ∙ ap (in_range n names) (sym (by_kind (span w from to) j (sym e ∙ k.is))) }
+
+  pub entry_named : kind ≡ 9 → NamedKnown w from to n names b → EntryKnown w from to n names b
+  entry_named e h = at_kind 9 e h.is
+
+  module _ {x : Kind} (o : KindOf kind x) where
+    pub entry_one : (x ≡ ListOf) ⊎ (x ≡ Neg) → Below w from to 1 1 1 n b → EntryKnown w from to n names b
+    entry_one (inl e) h = let j : KindOf kind ListOf = subst (KindOf kind) e o in at_kind 5 j.is (h.is ∙ sym (if_self (all_below n (cell (span w from to) 1 ∷ []))))
+    entry_one (inr e) h = let j : KindOf kind Neg = subst (KindOf kind) e o in at_kind 8 j.is (h.is ∙ sym (if_self (all_below n (cell (span w from to) 1 ∷ []))))
+
+    pub entry_two : (x ≡ Fn) ⊎ ((x ≡ Inter) ⊎ (x ≡ Union)) → Below w from to 1 1 2 n b → EntryKnown w from to n names b
+    entry_two (inl e) h =
+        let j : KindOf kind Fn = subst (KindOf kind) e o in at_kind 6 j.is (h.is ∙ sym (if_self (all_below n (cell (span w from to) 1 ∷ cell (span w from to) 2 ∷ []))))
+    entry_two (inr (inl e)) h =
+        let j : KindOf kind Inter = subst (KindOf kind) e o in at_kind 10 j.is (h.is ∙ sym (if_self (all_below n (cell (span w from to) 1 ∷ cell (span w from to) 2 ∷ []))))
+    entry_two (inr (inr e)) h =
+        let j : KindOf kind Union = subst (KindOf kind) e o in at_kind 11 j.is (h.is ∙ sym (if_self (all_below n (cell (span w from to) 1 ∷ cell (span w from to) 2 ∷ []))))
 
   module _ (e : kind ≡ 7) (x : SetKnown w from to n b) where
     pub entry_set : {d : Bool} → b ≡ true → KeysKnown w from to names d → EntryKnown w from to n names d
     entry_set h y = record { is = y.is ∙ sym (set_range w from to n names kind b k e x true h) }
 
-    pub entry_set_no : b ≡ false → EntryKnown w from to n names false
-    entry_set_no h = record { is = sym (set_range w from to n names kind b k e x false h) }
+    pub entry_set_no : b ≡ false → EntryKnown w from to n names b
+    entry_set_no h = record { is = h ∙ sym (set_range w from to n names kind b k e x false h) }
+
+module _ {w : List ℕ} {from to n names kind : ℕ} (k : At w from to 0 kind) {x : Kind} (o : KindOf kind x) where
+  pub entry_none : (x ≡ Frozen) ⊎ (x ≡ Other) → EntryKnown w from to n names true
+  entry_none (inl e) = let j : KindOf kind Frozen = subst (KindOf kind) e o in at_kind {n = n} {names = names} k 12 j.is refl
+  entry_none (inr e) =
+      let j : KindOf kind Other = subst (KindOf kind) e o in
+      let h : Unnamed kind = j.is in
+      record {
+        is =
+            poor (λ (z : Entry). true ≡ in_range n names z) kind (span w from to) refl refl refl h.no_var h.no_list h.no_fn h.no_set h.no_neg h.no_named h.no_inter h.no_union
+            ∙ ap (in_range n names) (sym (by_kind (span w from to) kind k.is));
+      }
 
 -- rows tested one by one
 known_none : (P : List ℕ → Bool) (w : List ℕ) (k a m : ℕ) → m ≡ 0 → known P k (run (row_at w) a m) ≡ accepted tt
@@ -176,8 +180,8 @@ entries_start {w} {t} =
     }
 
 module _ {w : List ℕ} {t : Table} {i : ℕ} (inv : Entries w t i) where
-  pub entries_done : t.entries ≤ i → EntriesKnown w t (Accepted t)
-  entries_done h = record { is = ap (λ (m : Result (Unit {0})). passing m t w) (sym (known_none (entry_test t) w (2 + t.names + i) (1 + t.names + i) (t.entries - i) (omega arith)) ∙ inv.is) }
+  pub entries_done : t.entries ≤ i → EntriesKnown w t (Ok tt)
+  entries_done h = record { is = sym (known_none (entry_test t) w (2 + t.names + i) (1 + t.names + i) (t.entries - i) (omega arith)) ∙ inv.is }
 
   module _ {a e : ℕ} {b : Bool} (lt : i < t.entries) (f : Begin w (1 + t.names + i) a) (g : Begin w (2 + t.names + i) e) (h : EntryKnown w a e t.entries t.names b) where
     turn : (c : Bool) → b ≡ c
@@ -189,8 +193,8 @@ module _ {w : List ℕ} {t : Table} {i : ℕ} (inv : Entries w t i) where
         (sym q ∙ h.is ∙ ap₂ {C = Bool} (λ (x y : ℕ). entry_test t (span w x y)) f.is (g.is ∙ ap (begin_at w) z)))
         ∙ inv.is
 
-    pub entries_no : b ≡ false → EntriesKnown w t (Refused 3 (2 + t.names + i))
-    entries_no q = record { is = ap (λ (m : Result (Unit {0})). passing m t w) (turn false q) }
+    pub entries_no : b ≡ false → EntriesKnown w t (Err (record { refusal = Range; line = 2 + t.names + i }))
+    entries_no q = record { is = turn false q }
 
     pub entries_more : b ≡ true → Entries w t (i + 1)
     entries_more q =
@@ -240,11 +244,8 @@ roots_start {w} {t} =
     }
 
 module _ {w : List ℕ} {t : Table} {i : ℕ} (inv : Roots w t i) where
-  pub roots_done : t.roots ≤ i → RootsKnown w t (Accepted t)
-  roots_done h = record {
-    is = ap (λ (m : Result (Unit {0})). passing m t w) (sym (known_none (whole_test t) w (root_row t + i + 1) (root_row t + i) (t.roots - i) (omega arith)) ∙ inv.is);
-    kept = refl;
-  }
+  pub roots_done : t.roots ≤ i → RootsKnown w t (Ok tt)
+  roots_done h = record { is = sym (known_none (whole_test t) w (root_row t + i + 1) (root_row t + i) (t.roots - i) (omega arith)) ∙ inv.is }
 
   module _ {a e : ℕ} {b : Bool} (lt : i < t.roots) (f : Begin w (root_row t + i) a) (g : Begin w (root_row t + i + 1) e) (h : Below w a e 1 1 1 t.entries b) where
     turn2 : (c : Bool) → b ≡ c
@@ -255,8 +256,8 @@ module _ {w : List ℕ} {t : Table} {i : ℕ} (inv : Roots w t i) where
         (sym q ∙ h.is ∙ root_tested t (span w a e) ∙ ap₂ {C = Bool} (λ (x y : ℕ). whole_test t (span w x y)) f.is g.is))
         ∙ inv.is
 
-    pub roots_no : b ≡ false → RootsKnown w t (Refused 3 (root_row t + i + 1))
-    roots_no q = record { is = ap (λ (m : Result (Unit {0})). passing m t w) (turn2 false q); kept = tt }
+    pub roots_no : b ≡ false → RootsKnown w t (Err (record { refusal = Range; line = root_row t + i + 1 }))
+    roots_no q = record { is = turn2 false q }
 
     pub roots_more : b ≡ true → Roots w t (i + 1)
     roots_more q =

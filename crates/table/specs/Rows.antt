@@ -14,10 +14,16 @@ use Rattle.layout.specs.Layout.{rows_at, table_words, table_length}
 use Rattle.table.specs.declared.Table.{Table}
 use Rattle.table.specs.declared.rows.Places.{Places}
 use Rattle.table.specs.declared.judging.Progress.{Progress}
-use Rattle.table.specs.declared.Answer.{Answer}
-use Rattle.table.specs.declared.Answer.TheVariants.{Accepted, Refused}
-use Rattle.table.specs.declared.judging.Verdict.{Verdict}
-use Rattle.table.specs.declared.judging.Verdict.TheVariants.{Taken as TakenV, Fault}
+use Rattle.table.specs.declared.kinds.Kind.{Kind}
+use Rattle.table.specs.declared.kinds.Kind.TheVariants.{Var, List as ListOf, Fn, Set, Neg, Named, Inter, Union, Frozen as FrozenEntry, Other}
+use Rattle.table.specs.declared.judging.Section.{Section}
+use Rattle.table.specs.declared.judging.Section.TheVariants.{Budget, Names, Entries, Pairs, Marks, Roots}
+use Rattle.std.specs.Prelude as std
+use Rattle.std.specs.Prelude.{Ok, Err}
+use Rattle.rules.specs.declared.Refusal.{Refusal}
+use Rattle.rules.specs.declared.Refusal.TheVariants.{Form, Ceiling, Ascent, Frozen}
+use Rattle.rules.specs.declared.Fault.{Fault}
+use Rattle.rules.specs.Refusals.{number}
 
 -- a row for each line at its ceiling
 abbrev pub most_lines : ℕ
@@ -34,8 +40,30 @@ pub record Begin (w : List ℕ) (i r : ℕ) : Type 0 where
 pub record At (w : List ℕ) (from to k r : ℕ) : Type 0 where
   pub is : r ≡ cell (span w from to) k
 
-pub record Section (kind r : ℕ) : Type 0 where
-  pub is : r ≡ section_of kind
+-- the rules' number of a section
+abbrev pub number_of_section : Section → ℕ
+number_of_section Budget = 0
+number_of_section Names = 1
+number_of_section Entries = 2
+number_of_section Pairs = 3
+number_of_section Marks = 4
+number_of_section Roots = 5
+
+-- the section that a line may still be of: the budget's before the budget line
+abbrev pub stage_of : Progress → ℕ
+stage_of p = number_of_section p.stage
+
+-- the section that a line may be of after one of section s
+abbrev pub section_after : Section → Section
+section_after Budget = Names
+section_after Names = Names
+section_after Entries = Entries
+section_after Pairs = Pairs
+section_after Marks = Marks
+section_after Roots = Roots
+
+pub record SectionOf (kind : ℕ) (r : Section) : Type 0 where
+  pub is : number_of_section r ≡ section_of kind
 
 -- n cells of a row: those at a, a + step, ..
 abbrev pub every : List ℕ → ℕ → ℕ → ℕ → List ℕ
@@ -77,10 +105,33 @@ pub record PlacedIn (row : List ℕ) (p : Places) : Type 0 where
 pub record Placed (w : List ℕ) (from to : ℕ) (p : Places) : Type 0 where
   pub is : PlacedIn (span w from to) p
 
--- of a kind that is neither a variable nor a set
-pub record PlainWeight (kind r : ℕ) : Type 0 where
-  pub is : (kind ≡ 2 → ⊥) → (kind ≡ 7 → ⊥) → (row : List ℕ) → kind ≡ cell row 0 → r ≡ weight (entry_of row)
-  pub small : r ≤ 2
+-- the number of none of the kinds with a name
+pub record Unnamed (n : ℕ) : Type 0 where
+  pub no_var : n ≡ 2 → ⊥
+  pub no_list : n ≡ 5 → ⊥
+  pub no_fn : n ≡ 6 → ⊥
+  pub no_set : n ≡ 7 → ⊥
+  pub no_neg : n ≡ 8 → ⊥
+  pub no_named : n ≡ 9 → ⊥
+  pub no_inter : n ≡ 10 → ⊥
+  pub no_union : n ≡ 11 → ⊥
+  pub no_frozen : n ≡ 12 → ⊥
+
+-- the kind that a row's number names
+abbrev pub Numbered : Kind → ℕ → Type 0
+Numbered Var n = n ≡ 2
+Numbered ListOf n = n ≡ 5
+Numbered Fn n = n ≡ 6
+Numbered Set n = n ≡ 7
+Numbered Neg n = n ≡ 8
+Numbered Named n = n ≡ 9
+Numbered Inter n = n ≡ 10
+Numbered Union n = n ≡ 11
+Numbered FrozenEntry n = n ≡ 12
+Numbered Other n = Unnamed n
+
+pub record KindOf (n : ℕ) (k : Kind) : Type 0 where
+  pub is : Numbered k n
 
 pub record Weight (w : List ℕ) (from to r : ℕ) : Type 0 where
   pub is : r ≡ weight (entry_of (span w from to))
@@ -169,8 +220,8 @@ pub record RowWeight (w : List ℕ) (from to s r : ℕ) : Type 0 where
 pub record Size (from to r : ℕ) : Type 0 where
   pub is : r ≡ (to - from) - 1
 
-pub record StageAfter (s r : ℕ) : Type 0 where
-  pub is : r ≡ stage_after s
+pub record StageAfter (s r : Section) : Type 0 where
+  pub is : r ≡ section_after s
 
 -- what was read keeps to the ceilings and to the order of sections
 pub record Fine (p : Progress) : Type 0 where
@@ -178,29 +229,31 @@ pub record Fine (p : Progress) : Type 0 where
   pub few_ids : p.ids ≤ most_ids
   pub low : p.top ≤ table_length
   pub few_lines : p.lines ≤ most_lines
-  pub unbegun : p.stage ≡ 0 → p.lines ≡ 0
-  pub begun : (p.stage ≡ 0 → ⊥) → p.lines ≡ 1 + p.table.names + p.table.entries + p.table.pairs + p.table.marks + p.table.roots
-  pub no_names : p.stage ≤ 0 → p.table.names ≡ 0
-  pub no_entries : p.stage ≤ 1 → p.table.entries ≡ 0
-  pub no_pairs : p.stage ≤ 2 → p.table.pairs ≡ 0
-  pub no_marks : p.stage ≤ 3 → p.table.marks ≡ 0
-  pub no_roots : p.stage ≤ 4 → p.table.roots ≡ 0
+  pub unbegun : stage_of p ≡ 0 → p.lines ≡ 0
+  pub begun : (stage_of p ≡ 0 → ⊥) → p.lines ≡ 1 + p.table.names + p.table.entries + p.table.pairs + p.table.marks + p.table.roots
+  pub no_names : stage_of p ≤ 0 → p.table.names ≡ 0
+  pub no_entries : stage_of p ≤ 1 → p.table.entries ≡ 0
+  pub no_pairs : stage_of p ≤ 2 → p.table.pairs ≡ 0
+  pub no_marks : stage_of p ≤ 3 → p.table.marks ≡ 0
+  pub no_roots : stage_of p ≤ 4 → p.table.roots ≡ 0
 
-abbrev pub advance_by : Progress → ℕ → ℕ → ℕ → Progress
-advance_by p s ids to = record { stage = stage_after s; lines = p.lines + 1; top = to; ids = p.ids + ids; table = count_row p.table s }
+abbrev pub advance_by : Progress → Section → ℕ → ℕ → Progress
+advance_by p s ids to =
+    record { stage = section_after s; lines = p.lines + 1; top = to; ids = p.ids + ids; table = count_row p.table (number_of_section s) }
 
-pub record Advanced (p : Progress) (s ids to : ℕ) (r : Progress) : Type 0 where
+pub record Advanced (p : Progress) (s : Section) (ids to : ℕ) (r : Progress) : Type 0 where
   pub is : r ≡ advance_by p s ids to
 
 -- rules' `admit` on counts, of a row of section s
-abbrev pub judge_by : Progress → List ℕ → ℕ → ℕ → Verdict
-judge_by p w to sec =
-    if (in_order p.stage sec)
-    (λ _. if (over_by (count_row p.table sec) (p.ids + row_weight sec (span w p.top to)) sec ((to - p.top) - 1)) (λ _. Fault 2)
-    (λ _. if (ascends_by p w to sec)
-    (λ _. if (eqb (cell (span w p.top to) 0) frozen_entry) (λ _. Fault 5) (λ _. TakenV (advance_by p sec (row_weight sec (span w p.top to)) to)))
-    (λ _. Fault 4)))
-    (λ _. Fault 1)
+abbrev pub judge_by : Progress → List ℕ → ℕ → Section → std.Result Progress Refusal
+judge_by p w to s =
+    if (in_order (stage_of p) (number_of_section s))
+    (λ _. if (over_by (count_row p.table (number_of_section s)) (p.ids + row_weight (number_of_section s) (span w p.top to)) (number_of_section s) ((to - p.top) - 1))
+    (λ _. Err Ceiling)
+    (λ _. if (ascends_by p w to (number_of_section s))
+    (λ _. if (eqb (cell (span w p.top to) 0) frozen_entry) (λ _. Err Frozen) (λ _. Ok (advance_by p s (row_weight (number_of_section s) (span w p.top to)) to)))
+    (λ _. Err Ascent)))
+    (λ _. Err Form)
 
 -- what is known of a row that is taken
 pub record Passed (p : Progress) (to : ℕ) (q : Progress) : Type 0 where
@@ -209,12 +262,14 @@ pub record Passed (p : Progress) (to : ℕ) (q : Progress) : Type 0 where
   pub lines : q.lines ≡ p.lines + 1
   pub top : q.top ≡ to
 
-abbrev pub Admitted : Progress → ℕ → Verdict → Type 0
-Admitted p to (TakenV q) = Passed p to q
-Admitted p to (Fault k) = Unit {0}
+abbrev pub Admitted : Progress → ℕ → std.Result Progress Refusal → Type 0
+Admitted p to (Ok q) = Passed p to q
+Admitted p to (Err k) = Unit {0}
 
-pub record Judged (p : Progress) (w : List ℕ) (to : ℕ) (r : Verdict) : Type 0 where
-  pub is : r ≡ judge_by p w to (section_of (cell (span w p.top to) 0))
+pub record Judged (p : Progress) (w : List ℕ) (to : ℕ) (r : std.Result Progress Refusal) : Type 0 where
+  pub section : Section
+  pub of_kind : number_of_section section ≡ section_of (cell (span w p.top to) 0)
+  pub is : r ≡ judge_by p w to section
   pub admitted : Admitted p to r
 
 -- row i
@@ -240,9 +295,9 @@ unfoldable pub table_from : Table → List ℕ → rules.Sections
 table_from t w = table_at (cell (row_at w 0) 1) t w
 
 -- what the code answers, with the rows that it left
-abbrev pub outcome : Answer → List ℕ → Result rules.Sections
-outcome (Accepted t) w = accepted (table_from t w)
-outcome (Refused k l) w = refused k l
+abbrev pub outcome : std.Result Table Fault → List ℕ → Result rules.Sections
+outcome (Ok t) w = accepted (table_from t w)
+outcome (Err e) w = refused (number e.refusal) e.line
 
 -- how many rows there are
 abbrev pub rows : Table → ℕ
@@ -255,13 +310,13 @@ pub record Laid (t : Table) (w : List ℕ) : Type 0 where
   pub behind : (i : ℕ) → i ≤ rows t → table_words ≤ begin_at w i
   pub within : (i : ℕ) → i ≤ rows t → begin_at w i ≤ table_length
 
-abbrev pub LaidBy : Answer → List ℕ → Type 0
-LaidBy (Accepted t) w = Laid t w
-LaidBy (Refused k l) w = Unit {0}
+abbrev pub LaidBy : std.Result Table Fault → List ℕ → Type 0
+LaidBy (Ok t) w = Laid t w
+LaidBy (Err e) w = Unit {0}
 
 -- nothing read yet
 abbrev pub untouched : Progress
-untouched = record { stage = 0; lines = 0; top = table_words; ids = 0; table = record { names = 0; entries = 0; pairs = 0; marks = 0; roots = 0 } }
+untouched = record { stage = Budget; lines = 0; top = table_words; ids = 0; table = record { names = 0; entries = 0; pairs = 0; marks = 0; roots = 0 } }
 
 pub record Unread (p : Progress) : Type 0 where
   pub is : p ≡ untouched
@@ -286,11 +341,11 @@ budget_by stage w = if (eqb stage 0) (λ _. 0) (λ _. cell (row_at w 0) 1)
 
 -- what was read so far, as the rules have it
 abbrev pub reading_of : Progress → List ℕ → Reading
-reading_of p w = record { stage = p.stage; ids = p.ids; table = table_at (budget_by p.stage w) p.table w }
+reading_of p w = record { stage = stage_of p; ids = p.ids; table = table_at (budget_by (stage_of p) w) p.table w }
 
-abbrev pub taken_of : Verdict → List ℕ → Admission
-taken_of (TakenV p) w = admitted (reading_of p w)
-taken_of (Fault k) w = fault k
+abbrev pub taken_of : std.Result Progress Refusal → List ℕ → Admission
+taken_of (Ok p) w = admitted (reading_of p w)
+taken_of (Err k) w = fault (number k)
 
 -- the rows so far stand one after the other, after their beginnings, and end at top
 pub record Layout (p : Progress) (w : List ℕ) : Type 0 where
@@ -321,16 +376,16 @@ pub record Went (p : Progress) (to : ℕ) (w : List ℕ) (q : Progress) : Type 0
   pub low : q.top ≤ table_words + (to + 1)
   pub lines : q.lines ≡ p.lines + 1
 
-abbrev pub Goes : Progress → ℕ → List ℕ → Verdict → Type 0
-Goes p to w (TakenV q) = Went p to w q
-Goes p to w (Fault k) = Unit {0}
+abbrev pub Goes : Progress → ℕ → List ℕ → std.Result Progress Refusal → Type 0
+Goes p to w (Ok q) = Went p to w q
+Goes p to w (Err k) = Unit {0}
 
-pub record Lined (text : List ℕ) (from to : ℕ) (p : Progress) (w w' : List ℕ) (r : Verdict) : Type 0 where
+pub record Lined (text : List ℕ) (from to : ℕ) (p : Progress) (w w' : List ℕ) (r : std.Result Progress Refusal) : Type 0 where
   pub is : taken_of r w' ≡ step (reading_of p w) (span text from to)
   pub goes : Goes p to w' r
   pub apart : Apart w w'
 
-pub record Lines (text w w' : List ℕ) (r : Answer) : Type 0 where
+pub record Lines (text w w' : List ℕ) (r : std.Result Table Fault) : Type 0 where
   pub is : outcome r w' ≡ lines 1 nothing (pieces line_feed text)
   pub laid : LaidBy r w'
   pub apart : Apart w w'
@@ -348,41 +403,30 @@ pub record KeysKnown (w : List ℕ) (from to names : ℕ) (r : Bool) : Type 0 wh
 pub record NamedKnown (w : List ℕ) (from to n names : ℕ) (r : Bool) : Type 0 where
   pub is : r ≡ both (all_below n (cell (span w from to) 2 ∷ [])) (λ _. all_below names (cell (span w from to) 1 ∷ []))
 
--- of a kind that is neither a variable nor a set
-pub record PlainKnown (w : List ℕ) (from to kind n names : ℕ) (r : Bool) : Type 0 where
-  pub is : (kind ≡ 2 → ⊥) → (kind ≡ 7 → ⊥) → kind ≡ cell (span w from to) 0 → r ≡ in_range n names (entry_of (span w from to))
-
 pub record EntryKnown (w : List ℕ) (from to n names : ℕ) (r : Bool) : Type 0 where
   pub is : r ≡ in_range n names (entry_of (span w from to))
 
--- the table, where every row passes the test
-abbrev pub passing : Result (Unit {0}) → Table → List ℕ → Result rules.Sections
-passing m t w = then m (λ _. accepted (table_from t w))
+-- whether all rows pass, as the rules say it
+abbrev pub verdict : std.Result (Unit {0}) Fault → Result (Unit {0})
+verdict (Ok u) = accepted tt
+verdict (Err e) = refused (number e.refusal) e.line
 
--- an answer that accepts is of the table asked for
-abbrev pub Kept : Table → Answer → Type 0
-Kept t (Accepted u) = u ≡ t
-Kept t (Refused k l) = Unit {0}
+pub record EntriesKnown (w : List ℕ) (t : Table) (r : std.Result (Unit {0}) Fault) : Type 0 where
+  pub is : verdict r ≡ known (λ (row : List ℕ). in_range t.entries t.names (entry_of row)) (2 + t.names) (run (row_at w) (1 + t.names) t.entries)
 
-pub record EntriesKnown (w : List ℕ) (t : Table) (r : Answer) : Type 0 where
-  pub is : outcome r w ≡ passing (known (λ (row : List ℕ). in_range t.entries t.names (entry_of row)) (2 + t.names) (run (row_at w)
-      (1 + t.names) t.entries)) t w
+pub record RootsKnown (w : List ℕ) (t : Table) (r : std.Result (Unit {0}) Fault) : Type 0 where
+  pub is : verdict r ≡ known (λ (row : List ℕ). ltb (cell row 0) t.entries) (2 + t.names + t.entries + t.pairs + t.marks) (bare
+      (run (row_at w) (1 + t.names + t.entries + t.pairs + t.marks) t.roots))
 
-pub record RootsKnown (w : List ℕ) (t : Table) (r : Answer) : Type 0 where
-  pub is : outcome r w ≡ passing (known (λ (row : List ℕ). ltb (cell row 0) t.entries) (2 + t.names + t.entries + t.pairs + t.marks) (bare
-      (run (row_at w) (1 + t.names + t.entries + t.pairs + t.marks) t.roots))) t w
-  pub kept : Kept t r
-
-pub record Known (w : List ℕ) (t : Table) (r : Answer) : Type 0 where
-  pub is : outcome r w ≡ in_table (table_from t w)
-  pub kept : Kept t r
+pub record Known (w : List ℕ) (t : Table) (r : std.Result (Unit {0}) Fault) : Type 0 where
+  pub is : then (verdict r) (λ _. accepted (table_from t w)) ≡ in_table (table_from t w)
 
 -- a text read: what is answered, with the rows left, is what the text says
-pub record Read (text w : List ℕ) (r : Answer) : Type 0 where
+pub record Read (text w : List ℕ) (r : std.Result Table Fault) : Type 0 where
   pub is : outcome r w ≡ sections_of text
   pub laid : LaidBy r w
 
 -- and what stood before the beginnings of rows stands there still
-pub record ReadInto (text w w' : List ℕ) (r : Answer) : Type 0 where
+pub record ReadInto (text w w' : List ℕ) (r : std.Result Table Fault) : Type 0 where
   pub read : Read text w' r
   pub apart : Apart w w'

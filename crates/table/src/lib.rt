@@ -10,6 +10,8 @@ ghost use Rattle.std.specs.Prelude.{◌≤◌, length};
 ghost use Rattle.layout.specs.Layout.{table_length};
 ghost use Rattle.table.specs.Rows.{ReadInto};
 
+use rules::{Fault, Refusal};
+
 // How many rows each section has. Row 0 is the budget line, and the sections follow in their order.
 #[derive(Clone, Copy)]
 pub struct Table {
@@ -38,24 +40,19 @@ impl Table {
     pub const ROOTS: usize = 64;
 }
 
-#[derive(Clone, Copy)]
-pub enum Answer {
-    Accepted(Table),
-    // number and line
-    Refused(u32, u32),
-}
-
 // A table text, read into rows.
-pub fn read(text: &[u8], table: &mut [u32]) -> Answer
+pub fn read(text: &[u8], table: &mut [u32]) -> Result<Table, Fault>
     requires { table_length ≤ length table.old }
     ensures { ReadInto text.now table.old table.new result }
 {
     if Table::TEXT < text.len() {
-        return Answer::Refused(2, 0);
+        return Err(Fault {
+            refusal: Refusal::Ceiling,
+            line: 0,
+        });
     }
     judging::start(table);
-    match judging::lines_of(text, table) {
-        Answer::Refused(k, l) => Answer::Refused(k, l),
-        Answer::Accepted(t) => ranges::known_of(table, t),
-    }
+    let t = judging::lines_of(text, table)?;
+    ranges::known_of(table, t)?;
+    Ok(t)
 }

@@ -16,10 +16,7 @@ pub fn begin(table: &[u32], i: usize) -> u32
 pub fn at(words: &[u32], from: usize, to: usize, k: usize) -> u32
     ensures { At words.now from to k result }
 {
-    if to <= from {
-        return 0;
-    }
-    if to - from <= k {
+    if to.saturating_sub(from) <= k {
         return 0;
     }
     cells::get(words, from + k)
@@ -31,15 +28,13 @@ pub fn ascend(words: &[u32], from: usize, to: usize, a: usize, step: usize, n: u
     ensures { Ascend words.now from to a step n result }
 {
     let mut p = a;
-    let mut i = 1;
-    while i < n {
+    for i in 1..n {
         let x = at(words, from, to, p);
         p += step;
         let y = at(words, from, to, p);
         if y <= x {
             return false;
         }
-        i += 1;
     }
     true
 }
@@ -58,14 +53,12 @@ pub fn below(
     ensures { Below words.now from to a step n limit result }
 {
     let mut p = a;
-    let mut i = 0;
-    while i < n {
+    for i in 0..n {
         let x = at(words, from, to, p) as usize;
         if limit <= x {
             return false;
         }
         p += step;
-        i += 1;
     }
     true
 }
@@ -88,10 +81,7 @@ pub fn before(words: &[u32], a: usize, m: usize, b: usize, t: usize) -> bool
         i += 1;
         k += 1;
     }
-    if k < t {
-        return true;
-    }
-    false
+    k < t
 }
 
 // Where the parts of a set's row stand, and how long its lists are; its dyn is a list of at most one.
@@ -108,10 +98,7 @@ pub struct Places {
 fn present(x: usize) -> usize
     ensures { Present x result }
 {
-    if x == 0 {
-        return 0;
-    }
-    1
+    x.min(1)
 }
 
 // The places of the set whose row stands between from and to.

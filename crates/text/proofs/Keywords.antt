@@ -1,66 +1,41 @@
 -- The kind of a line, by its keyword. Assumes nothing.
-use mathlib.Core.Path.{◌≡◌, refl, sym, ap, ap₂, ◌∙◌, subst}
+use mathlib.Core.Path.{◌≡◌, refl, sym, ap, ◌∙◌, subst}
 use mathlib.Core.Bool.{Bool, true, false}
 use Prim.Native.Nat.{ℕ, zero, suc, ◌+◌, ◌-◌, ◌*◌, ◌≤◌, ◌<◌}
 use native.Mathlib.Omega.{arith}
 use native.Mathlib.Numerals.{add-one}
 use native.Mathlib.Nat.{not-suc-le-zero, le_of_suc-le-suc, eq-or-lt_of_le}
 use mathlib.Core.Logic.{⊎_elim}
-use lib.Dec.{leb}
-use lib.ListN.{length}
+use lib.Dec.{leb, eqb}
+use lib.Pointwise.{pointwise}
+use lib.ListN.{length, take, drop}
 use borrow.Author.Tests.{leb-true}
 use mathlib.Core.List.{List, ◌∷◌}
 use Rattle.cells.specs.Part.{run, cell, part, eq_list}
-use Rattle.cells.proofs.Parts.{run_length, run_next, run_none, run_whole, eq_list_same, eq_list_other, eq_list_longer}
+use Rattle.cells.proofs.Parts.{part_eq, run_next, run_none, run_whole}
 use Rattle.cells.proofs.Choices.{true_false}
 use Rattle.rules.specs.Plain.{both}
 use Rattle.rules.specs.Text.{Kind, record_in, by_word, row_of}
-use Rattle.text.specs.declared.Num.{Num}
-use Rattle.text.specs.declared.Num.TheVariants.{No, Is}
-use Rattle.text.specs.declared.Got.{Got}
-use Rattle.text.specs.declared.Got.TheVariants.{Bad}
+use Rattle.std.specs.Prelude as std
+use Rattle.std.specs.Prelude.{None, Some}
 use Rattle.text.specs.Reads.{span, left, Word, Seek, FieldRoom, Shaped, Row}
 use Rattle.text.specs.Keywords.{Slot, Slots, slots, Under, word_at, shape_at, kind_at, kinds_in, record_of, KindOf}
-use Rattle.text.proofs.Spans.{span_length}
 use Rattle.text.proofs.Lists.{wrote_at, wrote_none}
 use Rattle.text.proofs.Shaping.{pieces_here}
 
--- a keyword compared, whose length stands at a: what is left says the same as the whole
-pub record Matching (s : List ℕ) (from : ℕ) (b : List ℕ) (a n k : ℕ) : Type 0 where
-  pub is : eq_list (part s (from + k) (n - k)) (part b (a + 1 + k) (n - k)) ≡ eq_list (part s from n) (part b (a + 1) n)
-
-pub match_start : {s : List ℕ} {from : ℕ} {b : List ℕ} {a n : ℕ} → Matching s from b a n 0
-match_start {s} {from} {b} {a} {n} = record { is = ap₂ eq_list (run_whole (cell s) from n) (run_whole (cell b) (a + 1) n) }
-
-module _ {s : List ℕ} {from : ℕ} {b : List ℕ} {a n k : ℕ} (inv : Matching s from b a n k) (lt : k < n) where
-  turn : eq_list (cell s (from + k) ∷ part s (from + (k + 1)) (n - (k + 1))) (cell b (a + 1 + k) ∷ part b (a + 1 + (k + 1)) (n - (k + 1)))
-      ≡ eq_list (part s from n) (part b (a + 1) n)
-  turn = sym (ap₂ eq_list (run_next (cell s) from n k lt) (run_next (cell b) (a + 1) n k lt)) ∙ inv.is
-
-  pub match_more : cell s (from + k) ≡ cell b (a + 1 + k) → Matching s from b a n (k + 1)
-  match_more h = record {
-    is = sym (eq_list_same (cell s (from + k)) (cell b (a + 1 + k)) (part s (from + (k + 1)) (n - (k + 1))) (part b (a + 1 + (k + 1)) (n - (k + 1)))
-        h) ∙ turn;
-  }
-
-  other : (cell s (from + k) ≡ cell b (a + 1 + k) → ⊥) → false ≡ eq_list (part s from n) (part b (a + 1) n)
-  other h = sym (eq_list_other (cell s (from + k)) (cell b (a + 1 + k)) (part s (from + (k + 1)) (n - (k + 1))) (part b (a + 1 + (k + 1)) (n - (k + 1))) h) ∙ turn
-
-module _ {s : List ℕ} {from to : ℕ} {b : List ℕ} {i : ℕ} (f : Slot b i) where
-  pub word_longer : (to - from ≡ cell b (17 * i) → ⊥) → Word s from to (word_at b i) false
-  word_longer h = record {
-    is = sym (eq_list_longer (span s from to) (word_at b i) (λ e. h (sym (span_length s from to) ∙ e ∙ run_length (cell b) (17 * i + 1) (cell b (17 * i)))));
-  }
-
-  module _ {k : ℕ} (e : to - from ≡ cell b (17 * i)) (inv : Matching s from b (17 * i) (cell b (17 * i)) k) where
-    word_is : {r : Bool} → r ≡ eq_list (part s from (cell b (17 * i))) (part b (17 * i + 1) (cell b (17 * i))) → Word s from to (word_at b i) r
-    word_is h = record { is = h ∙ ap (λ (x : ℕ). eq_list (part s from x) (part b (17 * i + 1) (cell b (17 * i)))) (sym e) }
-
-    pub word_same : cell b (17 * i) ≤ k → Word s from to (word_at b i) true
-    word_same h = word_is (sym (ap₂ eq_list (run_none (cell s) from (cell b (17 * i)) k h) (run_none (cell b) (17 * i + 1) (cell b (17 * i)) k h)) ∙ inv.is)
-
-    pub word_other : k < cell b (17 * i) → (cell s (from + k) ≡ cell b (17 * i + 1 + k) → ⊥) → Word s from to (word_at b i) false
-    word_other lt h = word_is (other inv lt h)
+-- a keyword compared
+pub word_is : {s b : List ℕ} {from to i n : ℕ} {r : Bool} → Slot b i → from ≤ to → to ≤ length s → n ≡ cell b (17 * i)
+    → r ≡ pointwise eqb (take (to - from) (drop from s)) (take ((17 * i + 1 + n) - (17 * i + 1)) (drop (17 * i + 1) b))
+    → Word s from to (word_at b i) r
+word_is {s} {b} {from} {to} {i} {n} f order within e h =
+    let l = f.size in
+    let m = f.word in
+    let u : (17 * i + 1 + n) - (17 * i + 1) ≡ cell b (17 * i) = omega arith in
+    record {
+      is =
+          h ∙ part_eq s b from to (17 * i + 1) (17 * i + 1 + n) order within (omega arith) (omega arith)
+          ∙ ap (λ (x : ℕ). eq_list (span s from to) (part b (17 * i + 1) x)) u;
+    }
 
 -- each of n kinds
 parts : (t : Bool) (y : Unit {0} → Bool) → both t y ≡ true → (t ≡ true) × (y tt ≡ true)
@@ -89,7 +64,7 @@ module _ {b : List ℕ} {n : ℕ} {s : List ℕ} {from to : ℕ} where
   look_start = record { is = λ fs. ap (λ (ks : List Kind). record_in ks 0 (span s from to) fs) (run_whole (kind_at b) 0 n) }
 
   module _ {i : ℕ} (inv : Looking b n s from to i) where
-    pub look_none : n ≤ i → KindOf b n s from to No
+    pub look_none : n ≤ i → KindOf b n s from to None
     look_none h = record { is = λ fs. sym (ap (λ (ks : List Kind). record_in ks i (span s from to) fs) (run_none (kind_at b) 0 n i h)) ∙ inv.is fs; under = tt }
 
     module _ {t : Bool} (lt : i < n) (y : Word s from to (word_at b i) t) where
@@ -103,9 +78,9 @@ module _ {b : List ℕ} {n : ℕ} {s : List ℕ} {from to : ℕ} where
           ∙ sym (ap (λ (ks : List Kind). record_in ks i (span s from to) fs) (run_next (kind_at b) 0 n i lt))
           ∙ inv.is fs
 
-      pub look_found : t ≡ true → KindOf b n s from to (Is i)
+      pub look_found : t ≡ true → KindOf b n s from to (Some i)
       look_found e = record {
-        is = λ fs. let here : record_in (kind_at b i ∷ others) i (span s from to) fs ≡ record_of b (Is i) fs = simp (sym y.is ∙ e) in sym here ∙ all fs;
+        is = λ fs. let here : record_in (kind_at b i ∷ others) i (span s from to) fs ≡ record_of b (Some i) fs = simp (sym y.is ∙ e) in sym here ∙ all fs;
         under = lt;
       }
 
@@ -119,17 +94,17 @@ module _ {b : List ℕ} {n : ℕ} {s : List ℕ} {from to : ℕ} where
       }
 
 -- a row, by its keyword
-module _ {b : List ℕ} {n : ℕ} {s : List ℕ} {from to k top : ℕ} {w : List ℕ} {m : Num} (h : FieldRoom s from to w top) (y : Seek s from to 9 k) (q : KindOf b n s from k m) where
-  by_kind : (o : Num) → m ≡ o → row_of (kinds_in b n) (span s from to) ≡ record_of b o (left s (k + 1) to)
+module _ {b : List ℕ} {n : ℕ} {s : List ℕ} {from to k top : ℕ} {w : List ℕ} {m : std.Option ℕ} (h : FieldRoom s from to w top) (y : Seek s from to 9 k) (q : KindOf b n s from k m) where
+  by_kind : (o : std.Option ℕ) → m ≡ o → row_of (kinds_in b n) (span s from to) ≡ record_of b o (left s (k + 1) to)
   unfolding row_of
   by_kind o e =
-      ap (by_word (kinds_in b n)) (pieces_here s from to k y) ∙ sym (q.is (left s (k + 1) to)) ∙ ap (λ (x : Num). record_of b x (left s (k + 1) to)) e
+      ap (by_word (kinds_in b n)) (pieces_here s from to k y) ∙ sym (q.is (left s (k + 1) to)) ∙ ap (λ (x : std.Option ℕ). record_of b x (left s (k + 1) to)) e
 
-  pub row_none : m ≡ No → Row (kinds_in b n) s from to top w w Bad
-  row_none e = record { wrote = wrote_none (by_kind No e) }
+  pub row_none : m ≡ None → Row (kinds_in b n) s from to top w w None
+  row_none e = record { wrote = wrote_none (by_kind None e) }
 
-  pub row_slot : {i : ℕ} → Slots b n → m ≡ Is i → Slot b i
+  pub row_slot : {i : ℕ} → Slots b n → m ≡ Some i → Slot b i
   row_slot f e = slot_at f (subst (Under n) e q.under)
 
-  pub row_some : {i : ℕ} {w' : List ℕ} {r : Got} → m ≡ Is i → Shaped s (k + 1) to i (shape_at b i) top w w' r → Row (kinds_in b n) s from to top w w' r
-  row_some {i} e p = record { wrote = wrote_at (by_kind (Is i) e) (omega (arith, y.low, y.high)) p.wrote }
+  pub row_some : {i : ℕ} {w' : List ℕ} {r : std.Option ℕ} → m ≡ Some i → Shaped s (k + 1) to i (shape_at b i) top w w' r → Row (kinds_in b n) s from to top w w' r
+  row_some {i} e p = record { wrote = wrote_at (by_kind (Some i) e) (omega (arith, y.low, y.high)) p.wrote }

@@ -11,10 +11,8 @@ use lib.ListN.{length, set, length-set}
 use borrow.Author.Tests.{eq-eqb, ne_eqb}
 use Rattle.rules.specs.Plain.{◌>>=◌}
 use Rattle.rules.specs.Text.{pieces, number, elements, counted, list_of, keyed}
-use Rattle.text.specs.declared.Num.{Num}
-use Rattle.text.specs.declared.Num.TheVariants.{No, Is}
-use Rattle.text.specs.declared.Got.{Got}
-use Rattle.text.specs.declared.Got.TheVariants.{Bad, To}
+use Rattle.std.specs.Prelude as std
+use Rattle.std.specs.Prelude.{None, Some}
 use Rattle.text.specs.Reads.{span, num_of, Number, Word, Room, FieldRoom, Seek, Above, Ends, got_words, Wrote, Keyed, element_of, Element, Elements, Listed}
 use Rattle.text.proofs.Spans.{span_none, span_same, span_append, span_length, span_put, span_one, span_two, above_none, above_set, above_over}
 use Rattle.text.proofs.Follow.{follow, follow_nil, follow_more}
@@ -22,24 +20,24 @@ use Rattle.text.proofs.Leaves.{cut_some, number_some}
 use mathlib.Core.Option.{Option, none, some}
 
 -- what was written, said otherwise, or as more words at most
-pub wrote_at : {m m' : Option (List ℕ)} {most most' top : ℕ} {w w' : List ℕ} {r : Got} → m ≡ m' → most' ≤ most → Wrote m' most' top w w' r → Wrote m most top w w' r
+pub wrote_at : {m m' : Option (List ℕ)} {most most' top : ℕ} {w w' : List ℕ} {r : std.Option ℕ} → m ≡ m' → most' ≤ most → Wrote m' most' top w w' r → Wrote m most top w w' r
 wrote_at {m} {m'} {most} {most'} {top} {w} {w'} {r} e le p = record { above = p.above; is = p.is ∙ sym e; ends = more r p.ends }
   where
-    more : (r : Got) → Ends top most' r → Ends top most r
-    more Bad e = tt
-    more (To t) e = (e.0, omega (arith, e.1))
+    more : (r : std.Option ℕ) → Ends top most' r → Ends top most r
+    more None e = tt
+    more (Some t) e = (e.0, omega (arith, e.1))
 
-pub wrote_none : {m : Option (List ℕ)} {most top : ℕ} {w : List ℕ} → m ≡ none → Wrote m most top w w Bad
+pub wrote_none : {m : Option (List ℕ)} {most top : ℕ} {w : List ℕ} → m ≡ none → Wrote m most top w w None
 wrote_none e = record { above = above_none; is = sym e; ends = tt }
 
-pub wrote_one : {m : Option (List ℕ)} {most top v : ℕ} {w : List ℕ} → m ≡ some (v ∷ []) → 1 ≤ most → top < length w → Wrote m most top w (set w top v) (To (top + 1))
+pub wrote_one : {m : Option (List ℕ)} {most top v : ℕ} {w : List ℕ} → m ≡ some (v ∷ []) → 1 ≤ most → top < length w → Wrote m most top w (set w top v) (Some (top + 1))
 wrote_one {m} {most} {top} {v} {w} e h l = record {
   above = above_set top v above_none (omega arith);
   is = ap (λ (x : List ℕ). some x) (span_one w top v l) ∙ sym e;
   ends = (omega arith, omega arith);
 }
 
-pub wrote_two : {m : Option (List ℕ)} {most top u v : ℕ} {w : List ℕ} → m ≡ some (u ∷ v ∷ []) → 2 ≤ most → top + 1 < length w → Wrote m most top w (set (set w top u) (top + 1) v) (To (top + 2))
+pub wrote_two : {m : Option (List ℕ)} {most top u v : ℕ} {w : List ℕ} → m ≡ some (u ∷ v ∷ []) → 2 ≤ most → top + 1 < length w → Wrote m most top w (set (set w top u) (top + 1) v) (Some (top + 2))
 wrote_two {m} {most} {top} {u} {v} {w} e h l = record {
   above = above_set (top + 1) v (above_set top u above_none (omega arith)) (omega arith);
   is = ap (λ (x : List ℕ). some x) (span_two w top u v l) ∙ sym e;
@@ -48,40 +46,40 @@ wrote_two {m} {most} {top} {u} {v} {w} e h l = record {
 
 -- a key and an id
 module _ {s : List ℕ} {from to e : ℕ} (x : Seek s from to 58 e) where
-  pub keyed_alone : {top : ℕ} {w : List ℕ} → e ≡ to → Keyed s from to top w w Bad
+  pub keyed_alone : {top : ℕ} {w : List ℕ} → e ≡ to → Keyed s from to top w w None
   keyed_alone h = record { wrote = wrote_none (ap keyed (x.last h)) }
 
   module _ {f : ℕ} (parted : e ≡ to → ⊥) (y : Seek s (e + 1) to 58 f) where
     before : e < to
     before = lt_of_le_of_ne x.high parted
 
-    pub keyed_many : {top : ℕ} {w : List ℕ} → (f ≡ to → ⊥) → Keyed s from to top w w Bad
+    pub keyed_many : {top : ℕ} {w : List ℕ} → (f ≡ to → ⊥) → Keyed s from to top w w None
     unfolding pieces
     keyed_many h = record {
       wrote = wrote_none (ap keyed (x.here before ∙ ap (λ (l : List (List ℕ)). span s from e ∷ l) (y.here (lt_of_le_of_ne y.high h)))
           ∙ cut_some (λ (q : List (List ℕ)). keyed (span s from e ∷ span s (e + 1) f ∷ q) ≡ none) (λ p ps. refl) 58 [] (span s (f + 1) to));
     }
 
-    module _ {a : Num} (h : f ≡ to) (p : Number s from e a) where
+    module _ {a : std.Option ℕ} (h : f ≡ to) (p : Number s from e a) where
       two : keyed (pieces 58 (span s from to)) ≡ (number (span s from e) >>= (λ (i : ℕ). number (span s (e + 1) f) >>= (λ (j : ℕ). some (i ∷ j ∷ []))))
       two = ap keyed (x.here before ∙ ap (λ (l : List (List ℕ)). span s from e ∷ l) (y.last h))
 
-      pub keyed_no_key : {top : ℕ} {w : List ℕ} → a ≡ No → Keyed s from to top w w Bad
+      pub keyed_no_key : {top : ℕ} {w : List ℕ} → a ≡ None → Keyed s from to top w w None
       keyed_no_key q = record {
         wrote = wrote_none (two ∙ ap (λ (o : Option ℕ). o >>= (λ (i : ℕ). number (span s (e + 1) f) >>= (λ (j : ℕ). some (i ∷ j ∷ [])))) (sym p.is ∙ ap num_of q));
       }
 
-      module _ {b : Num} {k : ℕ} (key : a ≡ Is k) (r : Number s (e + 1) f b) where
+      module _ {b : std.Option ℕ} {k : ℕ} (key : a ≡ Some k) (r : Number s (e + 1) f b) where
         three : keyed (pieces 58 (span s from to)) ≡ (num_of b >>= (λ (j : ℕ). some (k ∷ j ∷ [])))
         three =
             two
             ∙ ap (λ (o : Option ℕ). o >>= (λ (i : ℕ). number (span s (e + 1) f) >>= (λ (j : ℕ). some (i ∷ j ∷ [])))) (sym p.is ∙ ap num_of key)
             ∙ ap (λ (o : Option ℕ). o >>= (λ (j : ℕ). some (k ∷ j ∷ []))) (sym r.is)
 
-        pub keyed_no_id : {top : ℕ} {w : List ℕ} → b ≡ No → Keyed s from to top w w Bad
-        keyed_no_id q = record { wrote = wrote_none (three ∙ ap (λ (o : Num). num_of o >>= (λ (j : ℕ). some (k ∷ j ∷ []))) q) }
+        pub keyed_no_id : {top : ℕ} {w : List ℕ} → b ≡ None → Keyed s from to top w w None
+        keyed_no_id q = record { wrote = wrote_none (three ∙ ap (λ (o : std.Option ℕ). num_of o >>= (λ (j : ℕ). some (k ∷ j ∷ []))) q) }
 
-        module _ {top i : ℕ} {w : List ℕ} (room : Room s from to w top) (id : b ≡ Is i) where
+        module _ {top i : ℕ} {w : List ℕ} (room : Room s from to w top) (id : b ≡ Some i) where
           keyed_fits : top + 1 < length w
           keyed_fits =
               let key-bytes : from < e = lt_of_not-le (number_some p key) in
@@ -91,32 +89,32 @@ module _ {s : List ℕ} {from to e : ℕ} (x : Seek s from to 58 e) where
           pub keyed_place : top + 1 < length (set w top k)
           keyed_place = simp length-set keyed_fits
 
-          pub keyed_done : Keyed s from to top w (set (set w top k) (top + 1) i) (To (top + 2))
+          pub keyed_done : Keyed s from to top w (set (set w top k) (top + 1) i) (Some (top + 2))
           keyed_done =
               let key-bytes : from < e = lt_of_not-le (number_some p key) in
               let id-bytes : e + 1 < f = lt_of_not-le (number_some r id) in
-              record { wrote = wrote_two (three ∙ ap (λ (o : Num). num_of o >>= (λ (j : ℕ). some (k ∷ j ∷ []))) id) (omega arith) keyed_fits }
+              record { wrote = wrote_two (three ∙ ap (λ (o : std.Option ℕ). num_of o >>= (λ (j : ℕ). some (k ∷ j ∷ []))) id) (omega arith) keyed_fits }
 
 -- an element
-is_single : (s : List ℕ) (from to each : ℕ) (a : Num) → (each ≡ 2 → ⊥) → Number s from to a → (o : Num) → a ≡ o → element_of each (span s from to) ≡ (num_of o >>= (λ (n : ℕ). some (n ∷ [])))
+is_single : (s : List ℕ) (from to each : ℕ) (a : std.Option ℕ) → (each ≡ 2 → ⊥) → Number s from to a → (o : std.Option ℕ) → a ≡ o → element_of each (span s from to) ≡ (num_of o >>= (λ (n : ℕ). some (n ∷ [])))
 is_single s from to each a e p o q = simp (ne_eqb each 2 e) (ap (λ (m : Option ℕ). m >>= (λ (n : ℕ). some (n ∷ []))) (sym p.is ∙ ap num_of q))
 
-pub element_fits : {s : List ℕ} {from to top v : ℕ} {w : List ℕ} {a : Num} → Room s from to w top → Number s from to a → a ≡ Is v → top < length w
+pub element_fits : {s : List ℕ} {from to top v : ℕ} {w : List ℕ} {a : std.Option ℕ} → Room s from to w top → Number s from to a → a ≡ Some v → top < length w
 element_fits {s} {from} {to} room p q = let bytes : from < to = lt_of_not-le (number_some p q) in omega (arith, room.room)
 
 module _ {s : List ℕ} {from to each top : ℕ} {w : List ℕ} where
-  pub element_keyed : {w' : List ℕ} {r : Got} → each ≡ 2 → Keyed s from to top w w' r → Element s from to each top w w' r
+  pub element_keyed : {w' : List ℕ} {r : std.Option ℕ} → each ≡ 2 → Keyed s from to top w w' r → Element s from to each top w w' r
   element_keyed e p = record { wrote = wrote_at (simp (eq-eqb each 2 e)) (omega arith) p.wrote }
 
-  module _ {a : Num} (e : each ≡ 2 → ⊥) (p : Number s from to a) where
-    pub element_none : a ≡ No → Element s from to each top w w Bad
-    element_none q = record { wrote = wrote_none (is_single s from to each a e p No q) }
+  module _ {a : std.Option ℕ} (e : each ≡ 2 → ⊥) (p : Number s from to a) where
+    pub element_none : a ≡ None → Element s from to each top w w None
+    element_none q = record { wrote = wrote_none (is_single s from to each a e p None q) }
 
-    module _ {v : ℕ} (room : Room s from to w top) (q : a ≡ Is v) where
-      pub element_one : Element s from to each top w (set w top v) (To (top + 1))
+    module _ {v : ℕ} (room : Room s from to w top) (q : a ≡ Some v) where
+      pub element_one : Element s from to each top w (set w top v) (Some (top + 1))
       element_one =
           let bytes : from < to = lt_of_not-le (number_some p q) in
-          record { wrote = wrote_one (is_single s from to each a e p (Is v) q) (omega arith) (element_fits room p q) }
+          record { wrote = wrote_one (is_single s from to each a e p (Some v) q) (omega arith) (element_fits room p q) }
 
 -- the words got so far, and what is left to read, are the whole list
 pub record Listing (s : List ℕ) (from to each top : ℕ) (w₀ w : List ℕ) (i t : ℕ) : Type 0 where
@@ -147,7 +145,7 @@ module _ {s : List ℕ} {from to each top : ℕ} {w₀ w : List ℕ} {i t e : �
     room = let l = inv.above.same_length in omega (arith, h.room, inv.short, inv.low, k.low, k.high);
   }
 
-  module _ {w' : List ℕ} {r : Got} (p : Element s i e each t w w' r) where
+  module _ {w' : List ℕ} {r : std.Option ℕ} (p : Element s i e each t w w' r) where
     -- the element's outcome, with the pieces after it
     then : (ps : List (List ℕ)) (m : Option (List ℕ)) → pieces 44 (span s i to) ≡ span s i e ∷ ps → got_words t w' r ≡ m
         → follow (span w top t) (m >>= (λ (x : List ℕ). elements (element_of each) ps >>= (λ (xs : List ℕ). some (x ++ xs))))
@@ -160,7 +158,7 @@ module _ {s : List ℕ} {from to each top : ℕ} {w₀ w : List ℕ} {i t e : �
     above_too : Above top w₀ w'
     above_too = above_over inv.above p.wrote.above inv.begun
 
-    pub elements_bad : r ≡ Bad → Elements s from to each top w₀ w' Bad
+    pub elements_bad : r ≡ None → Elements s from to each top w₀ w' None
     elements_bad q = record {
       wrote = record {
         above = above_too;
@@ -171,8 +169,8 @@ module _ {s : List ℕ} {from to each top : ℕ} {w₀ w : List ℕ} {i t e : �
       };
     }
 
-    module _ {u : ℕ} (q : r ≡ To u) where
-      bounds : Ends t (e - i) (To u)
+    module _ {u : ℕ} (q : r ≡ Some u) where
+      bounds : Ends t (e - i) (Some u)
       bounds = subst (Ends t (e - i)) q p.wrote.ends
 
       written : span w' top u ≡ span w top t ++ span w' t u
@@ -184,7 +182,7 @@ module _ {s : List ℕ} {from to each top : ℕ} {w₀ w : List ℕ} {i t e : �
           ∙ sym (follow_more (span w top t) (span w' t u) (elements (element_of each) ps))
           ∙ then ps (some (span w' t u)) h (ap (got_words t w') q)
 
-      pub elements_last : e ≡ to → Elements s from to each top w₀ w' (To u)
+      pub elements_last : e ≡ to → Elements s from to each top w₀ w' (Some u)
       elements_last h = record {
         wrote = record {
           above = above_too;
@@ -210,18 +208,18 @@ pub list_room : {s : List ℕ} {from to top : ℕ} {w : List ℕ} → FieldRoom 
 list_room h = record { order = h.order; within = h.within; room = omega (arith, h.room) }
 
 module _ {s : List ℕ} {from to each top : ℕ} {w : List ℕ} {b : Bool} (room : FieldRoom s from to w top) (h : Word s from to (45 ∷ []) b) where
-  pub list_dash : b ≡ true → Listed s from to each top w (set w top 0) (To (top + 1))
+  pub list_dash : b ≡ true → Listed s from to each top w (set w top 0) (Some (top + 1))
   list_dash e = record { wrote = wrote_one (simp (sym h.is ∙ e)) (omega arith) (omega (arith, room.room)) }
 
-  module _ {w' : List ℕ} {r : Got} (e : b ≡ false) (p : Elements s from to each (top + 1) w w' r) where
+  module _ {w' : List ℕ} {r : std.Option ℕ} (e : b ≡ false) (p : Elements s from to each (top + 1) w w' r) where
     is_counted : (m : Option (List ℕ)) → got_words (top + 1) w' r ≡ m → list_of each (element_of each) (span s from to) ≡ counted each m
     is_counted m q = simp (sym h.is ∙ e) (ap (counted each) (sym p.wrote.is ∙ q))
 
-    pub list_bad : r ≡ Bad → Listed s from to each top w w' Bad
+    pub list_bad : r ≡ None → Listed s from to each top w w' None
     list_bad q = record { wrote = record { above = above_over above_none p.wrote.above (omega arith); is = sym (is_counted none (ap (got_words (top + 1) w') q)); ends = tt } }
 
-    module _ {t : ℕ} (q : r ≡ To t) where
-      list_bounds : Ends (top + 1) (to - from) (To t)
+    module _ {t : ℕ} (q : r ≡ Some t) where
+      list_bounds : Ends (top + 1) (to - from) (Some t)
       list_bounds = subst (Ends (top + 1) (to - from)) q p.wrote.ends
 
       pub list_low : top + 1 ≤ t
@@ -233,7 +231,7 @@ module _ {s : List ℕ} {from to each top : ℕ} {w : List ℕ} {b : Bool} (room
       pub list_place : top < length w'
       list_place = omega (arith, p.wrote.above.same_length, room.room)
 
-      pub list_done : Listed s from to each top w (set w' top ((t - (top + 1)) / each)) (To t)
+      pub list_done : Listed s from to each top w (set w' top ((t - (top + 1)) / each)) (Some t)
       list_done = record {
         wrote = record {
           above = above_set top ((t - (top + 1)) / each) (above_over above_none p.wrote.above (omega arith)) (omega arith);

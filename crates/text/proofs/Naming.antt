@@ -1,93 +1,138 @@
 -- A name, byte by byte. Assumes nothing.
 use mathlib.Core.Path.{◌≡◌, refl, sym, ap, ap₂, ◌∙◌, subst}
 use mathlib.Core.Bool.{Bool, true, false, not}
-use Prim.Native.Nat.{ℕ, zero, suc, ◌+◌, ◌-◌, ◌*◌, ◌≤◌, ◌<◌}
+use Prim.Native.Nat.{ℕ, suc, ◌+◌, ◌-◌, ◌*◌, ◌≤◌, ◌<◌}
 use native.Mathlib.Omega.{arith}
 use mathlib.Core.List.{List, [], ◌∷◌, append-nil}
 use lib.ListN.{length, set}
 use lib.Dec.{eqb, ltb}
-use borrow.Author.Tests.{lt-ltb, le-ltb, eq-eqb, ne_eqb, eqb-true}
+use mathlib.Core.Logic.{⊎_elim}
+use borrow.Author.Tests.{lt-ltb, le-ltb, ltb-false, eq-eqb, ne_eqb, eqb-true, eqb-false}
+use Rattle.std.proofs.lemmas.Bool.{cases_lt}
 use Rattle.cells.specs.Part.{if, cell}
 use Rattle.rules.specs.Plain.{given}
 use Rattle.rules.specs.Text.{hex, escaped, plain, escape, put_byte, name}
 use Rattle.text.specs.Escapes.{Read, bad, move, put, next, after, chars}
-use Rattle.text.specs.declared.Got.TheVariants.{Bad, To}
+use Rattle.std.specs.Prelude as std
+use Rattle.std.specs.Prelude.{None, Some}
 use Rattle.text.proofs.Follow.{follow, follow_nil, follow_more}
 use Rattle.text.proofs.Spans.{span_none, span_next, span_set, above_none, above_set}
 use Rattle.text.specs.declared.Step.{Step}
-use Rattle.text.specs.declared.Step.TheVariants.{Wrong, Move, Put}
-use Rattle.text.specs.Reads.{span, Above, step_of, Hex, Escaped, Small, Next, Room, Named}
+use Rattle.text.specs.declared.Step.TheVariants.{Move, Put}
+use Rattle.text.specs.declared.State.{State}
+use Rattle.text.specs.declared.State.TheVariants.{Plain, Slash, Digit as DigitOf}
+use Rattle.text.specs.Reads.{span, Above, state_of, step_of, Hex, Escaped, Fits, Small, Next, Room, Named}
 use mathlib.Core.Option.{Option, none, some}
 
 module _ {b : ℕ} where
-  pub hex_low : b < 48 → Hex b 16
+  pub hex_digit : {d : ℕ} → 48 ≤ b → b ≤ 57 → d ≡ b - 48 → Hex b (Some d)
   unfolding hex
-  hex_low h = record { is = simp (lt-ltb b 48 h) }
+  hex_digit g h e = record { is = simp (le-ltb b 48 g, lt-ltb b 58 (omega arith)) e; small = omega arith }
 
-  pub hex_digit_lem : 48 ≤ b → b < 58 → Hex b (b - 48)
+  pub hex_letter : {d : ℕ} → 97 ≤ b → b ≤ 102 → d ≡ b - 97 → Hex b (Some (d + 10))
   unfolding hex
-  hex_digit_lem g h = record { is = simp (le-ltb b 48 g, lt-ltb b 58 h) }
+  hex_letter g h e = record {
+    is = simp (le-ltb b 48 (omega arith), le-ltb b 58 (omega arith), le-ltb b 97 g, lt-ltb b 103 (omega arith)) (omega arith);
+    small = omega arith;
+  }
 
-  pub hex_mid : 48 ≤ b → 58 ≤ b → b < 97 → Hex b 16
+  pub hex_none : (48 ≤ b → b ≤ 57 → ⊥) → (97 ≤ b → b ≤ 102 → ⊥) → Hex b None
   unfolding hex
-  hex_mid f g h = record { is = simp (le-ltb b 48 f, le-ltb b 58 g, lt-ltb b 97 h) }
+  hex_none n m = record { is = low (ltb b 48) refl; small = tt }
+    where
+      top : 97 ≤ b → 103 ≤ b
+      top h = ⊎_elim (λ (l : b < 103). absurd (m h (omega arith))) (λ l. l) (cases_lt b 103)
 
-  pub hex_letter : 48 ≤ b → 58 ≤ b → 97 ≤ b → b < 103 → Hex b (b - 87)
-  unfolding hex
-  hex_letter e f g h = record { is = simp (le-ltb b 48 e, le-ltb b 58 f, le-ltb b 97 g, lt-ltb b 103 h) }
+      high : (t : Bool) → ltb b 97 ≡ t → 16 ≡ if t (λ _. 16) (λ _. if (ltb b 103) (λ _. b - 87) (λ _. 16))
+      high true e = refl
+      high false e = simp (le-ltb b 103 (top (ltb-false b 97 e)))
 
-  pub hex_high : 48 ≤ b → 58 ≤ b → 97 ≤ b → 103 ≤ b → Hex b 16
-  unfolding hex
-  hex_high e f g h = record { is = simp (le-ltb b 48 e, le-ltb b 58 f, le-ltb b 97 g, le-ltb b 103 h) }
+      mid : 48 ≤ b → 16 ≡ if (ltb b 58) (λ _. b - 48) (λ _. if (ltb b 97) (λ _. 16) (λ _. if (ltb b 103) (λ _. b - 87) (λ _. 16)))
+      mid g = ⊎_elim (λ (l : b < 58). absurd (n g (omega arith))) (λ (l : 58 ≤ b). simp (le-ltb b 58 l) (high (ltb b 97) refl)) (cases_lt b 58)
 
-  pub escaped_low : b < 32 → Escaped b true
+      low : (t : Bool) → ltb b 48 ≡ t → 16 ≡ if t (λ _. 16) (λ _. if (ltb b 58) (λ _. b - 48) (λ _. if (ltb b 97) (λ _. 16) (λ _. if (ltb b 103) (λ _. b - 87) (λ _. 16))))
+      low true e = refl
+      low false e = mid (ltb-false b 48 e)
+
+  pub escaped_no : 32 ≤ b → (b ≡ 92 → ⊥) → (b ≡ 127 → ⊥) → Escaped b false
   unfolding escaped
-  escaped_low h = record { is = simp (lt-ltb b 32 h) }
+  escaped_no g h k = record { is = simp (le-ltb b 32 g, ne_eqb b 92 h, ne_eqb b 127 k) }
 
-  pub escaped_slash : 32 ≤ b → b ≡ 92 → Escaped b true
+  pub escaped_yes : (32 ≤ b → (b ≡ 92 → ⊥) → (b ≡ 127 → ⊥) → ⊥) → Escaped b true
   unfolding escaped
-  escaped_slash g h = record { is = simp (le-ltb b 32 g, eq-eqb b 92 h) }
+  escaped_yes f = record { is = low (ltb b 32) refl }
+    where
+      high : 32 ≤ b → (b ≡ 92 → ⊥) → true ≡ eqb b 127
+      high g n = by (eqb b 127) refl
+        where
+          by : (t : Bool) → eqb b 127 ≡ t → true ≡ t
+          by true e = refl
+          by false e = absurd (f g n (eqb-false b 127 e))
 
-  pub escaped_else : 32 ≤ b → (b ≡ 92 → ⊥) → Escaped b (eqb b 127)
-  unfolding escaped
-  escaped_else g h = record { is = simp (le-ltb b 32 g, ne_eqb b 92 h) }
+      mid : 32 ≤ b → (t : Bool) → eqb b 92 ≡ t → true ≡ if t (λ _. true) (λ _. eqb b 127)
+      mid g true e = refl
+      mid g false e = high g (eqb-false b 92 e)
 
-module _ {st b : ℕ} where
-  pub next_slash : st ≡ 0 → b ≡ 92 → Next st b (Move 1)
+      low : (t : Bool) → ltb b 32 ≡ t → true ≡ if t (λ _. true) (λ _. if (eqb b 92) (λ _. true) (λ _. eqb b 127))
+      low true e = refl
+      low false e = mid (ltb-false b 32 e) (eqb b 92) refl
+
+-- a step in a state that is this one
+next_at : {st st' : State} {b : ℕ} {r : std.Option Step} → st ≡ st' → Next st' b r → Next st b r
+next_at {b = b} {r} e h = subst (λ (q : State). Next q b r) (sym e) h
+
+module _ {st : State} {b : ℕ} where
+  pub next_slash : st ≡ Plain → b ≡ 92 → Next st b (Some (Move Slash))
   unfolding next
-  next_slash z h = record { is = simp (eq-eqb st 0 z, eq-eqb b 92 h); small = omega arith }
+  next_slash z h = next_at z (record { is = simp (eq-eqb b 92 h); small = record { low = omega arith } })
 
-  module _ {p : Bool} (z : st ≡ 0) (n : b ≡ 92 → ⊥) (q : Escaped b p) where
-    pub next_raw : p ≡ true → Next st b Wrong
+  module _ {x : ℕ} {p : Bool} (z : st ≡ Plain) (w : x ≡ b) (n : b ≡ 92 → ⊥) (q : Escaped x p) where
+    told : p ≡ escaped b
+    told = q.is ∙ ap escaped w
+
+    pub next_raw : p ≡ true → Next st b None
     unfolding next
-    next_raw h = record { is = simp (eq-eqb st 0 z, ne_eqb b 92 n, sym q.is ∙ h); small = tt }
+    next_raw h = next_at z (record { is = simp (ne_eqb b 92 n, sym told ∙ h); small = tt })
 
-    pub next_plain : p ≡ false → Next st b (Put b)
+    pub next_plain : p ≡ false → Next st b (Some (Put x))
     unfolding next
-    next_plain h = record { is = simp (eq-eqb st 0 z, ne_eqb b 92 n, sym q.is ∙ h); small = tt }
+    next_plain h = next_at z (record { is = simp (ne_eqb b 92 n, sym told ∙ h) (ap put w); small = tt })
 
-  module _ {h : ℕ} (z : st ≡ 0 → ⊥) (k : Hex b h) where
-    pub next_no_digit : 15 < h → Next st b Wrong
+  pub next_no_first : st ≡ Slash → Hex b None → Next st b None
+  unfolding next
+  next_no_first z k = next_at z (record { is = simp (sym k.is); small = tt })
+
+  pub next_first : {h : ℕ} → st ≡ Slash → Hex b (Some h) → Next st b (Some (Move (DigitOf h)))
+  unfolding next
+  next_first {h} z k =
+      let l : h ≤ 15 = k.small in
+      next_at z (record { is = simp (sym k.is, le-ltb 15 h l); small = record { low = omega arith } })
+
+  module _ {d : ℕ} (z : st ≡ DigitOf d) where
+    pub next_no_second : Hex b None → Next st b None
     unfolding next
-    next_no_digit l = record { is = simp (ne_eqb st 0 z, sym k.is, lt-ltb 15 h l); small = tt }
+    next_no_second k = next_at z (record { is = simp (ne_eqb (2 + d) 0 (λ (y : 2 + d ≡ 0). omega arith), sym k.is); small = tt })
 
-    module _ (l : h ≤ 15) where
-      pub next_first : st ≡ 1 → Next st b (Move (2 + h))
+    module _ {h : ℕ} {p : Bool} (k : Hex b (Some h)) (q : Escaped (d * 16 + h) p) where
+      second : next (2 + d) b ≡ if p (λ _. put (d * 16 + h)) (λ _. bad)
       unfolding next
-      next_first o = record { is = simp (ne_eqb st 0 z, sym k.is, le-ltb 15 h l, eq-eqb st 1 o); small = omega arith }
+      second =
+          let m : (2 + d) - 2 ≡ d = omega arith in
+          simp (ne_eqb (2 + d) 0 (λ (y : 2 + d ≡ 0). omega arith), ne_eqb (2 + d) 1 (λ (y : 2 + d ≡ 1). omega arith), m, sym k.is, le-ltb 15 h k.small, q.is)
 
-      module _ {p : Bool} (o : st ≡ 1 → ⊥) (q : Escaped ((st - 2) * 16 + h) p) where
-        pub next_escaped : p ≡ true → Next st b (Put ((st - 2) * 16 + h))
-        unfolding next
-        next_escaped t = record { is = simp (ne_eqb st 0 z, sym k.is, le-ltb 15 h l, ne_eqb st 1 o, sym q.is ∙ t); small = tt }
+      pub next_escaped : p ≡ true → Next st b (Some (Put (d * 16 + h)))
+      next_escaped t = next_at z (record { is = simp t at (sym second); small = tt })
 
-        pub next_needless : p ≡ false → Next st b Wrong
-        unfolding next
-        next_needless t = record { is = simp (ne_eqb st 0 z, sym k.is, le-ltb 15 h l, ne_eqb st 1 o, sym q.is ∙ t); small = tt }
+      pub next_needless : p ≡ false → Next st b None
+      next_needless t = next_at z (record { is = simp t at (sym second); small = tt })
 
-chars_open : (st : ℕ) → (st ≡ 0 → ⊥) → chars st [] ≡ none
-chars_open zero h = absurd (h refl)
-chars_open (suc st) h = refl
+digit_open : (d : ℕ) → chars (2 + d) [] ≡ none
+digit_open d = ap (λ (k : ℕ). chars k []) (let e : 2 + d ≡ suc (suc d) = omega arith in e)
+
+chars_open : (st : State) → (st ≡ Plain → ⊥) → chars (state_of st) [] ≡ none
+chars_open Plain h = absurd (h refl)
+chars_open Slash h = refl
+chars_open (DigitOf d) h = digit_open d
 
 -- what the automaton does with a byte, state by state
 module _ (k : ℕ → Option (List ℕ)) where
@@ -141,7 +186,7 @@ slash_two c d bs =
 
 slash_one : (p : Bool) (h : ℕ) → if p (λ _. none) (λ _. chars (2 + h) []) ≡ none
 slash_one true h = refl
-slash_one false h = chars_open (2 + h) (λ (z : 2 + h ≡ 0). omega arith)
+slash_one false h = digit_open h
 
 one_by : (p : Bool) (b : ℕ) → eqb b 92 ≡ p → chars 0 (b ∷ []) ≡ put_byte (plain b) (some [])
 one_by true b e = slash_step (λ (q : ℕ). chars q []) b e ∙ ap (λ (m : Option ℕ). put_byte m (some [])) (sym (slash_escaped b e))
@@ -169,18 +214,18 @@ chars_name (b ∷ c ∷ d ∷ bs) =
     ∙ ap₂ {C = Option (List ℕ)} (λ (x y : Option (List ℕ)). if (eqb b 92) (λ _. put_byte (escape c d) x) (λ _. put_byte (plain b) y))
     (chars_name bs) (chars_name (c ∷ d ∷ bs))
 
-pub record Naming (s : List ℕ) (from to top : ℕ) (w₀ w : List ℕ) (st i t : ℕ) : Type 0 where
-  pub state : st ≤ 17
+pub record Naming (s : List ℕ) (from to top : ℕ) (w₀ w : List ℕ) (st : State) (i t : ℕ) : Type 0 where
+  pub fits : Fits st
   pub low : from ≤ i
   pub high : i ≤ to
   pub begun : top ≤ t
   pub short : t ≤ top + (i - from)
   pub above : Above top w₀ w
-  pub is : follow (span w top t) (chars st (span s i to)) ≡ name (span s from to)
+  pub is : follow (span w top t) (chars (state_of st) (span s i to)) ≡ name (span s from to)
 
-pub name_start : {s : List ℕ} {from to top : ℕ} {w : List ℕ} → Room s from to w top → Naming s from to top w w 0 from top
+pub name_start : {s : List ℕ} {from to top : ℕ} {w : List ℕ} → Room s from to w top → Naming s from to top w w Plain from top
 name_start {s} {from} {to} {top} {w} h = record {
-  state = omega arith;
+  fits = record { low = omega arith };
   low = omega arith;
   high = h.order;
   begun = omega arith;
@@ -189,60 +234,63 @@ name_start {s} {from} {to} {top} {w} h = record {
   is = ap (λ (l : List ℕ). follow l (chars 0 (span s from to))) (span_none w top top (omega arith)) ∙ follow_nil (chars 0 (span s from to)) ∙ chars_name (span s from to);
 }
 
-module _ {s : List ℕ} {from to top : ℕ} {w₀ w : List ℕ} {st i t : ℕ} (inv : Naming s from to top w₀ w st i t) where
-  pub name_done : to ≤ i → st ≡ 0 → Named s from to top w₀ w (To t)
+module _ {s : List ℕ} {from to top : ℕ} {w₀ w : List ℕ} {state : State} {i t : ℕ} (inv : Naming s from to top w₀ w state i t) where
+  pub name_done : to ≤ i → state ≡ Plain → Named s from to top w₀ w (Some t)
   name_done h z = record {
     wrote = record {
       above = inv.above;
       is = sym (ap (λ (l : List ℕ). some l) (append-nil (span w top t)))
-          ∙ ap₂ {C = Option (List ℕ)} (λ (q : ℕ) (l : List ℕ). follow (span w top t) (chars q l)) (sym z) (sym (span_none s i to h)) ∙ inv.is;
+          ∙ ap₂ {C = Option (List ℕ)} (λ (q : State) (l : List ℕ). follow (span w top t) (chars (state_of q) l)) (sym z) (sym (span_none s i to h)) ∙ inv.is;
       ends = (inv.begun, omega (arith, inv.short, inv.high, inv.low));
     };
   }
 
-  pub name_open : to ≤ i → (st ≡ 0 → ⊥) → Named s from to top w₀ w Bad
+  pub name_open : to ≤ i → (state ≡ Plain → ⊥) → Named s from to top w₀ w None
   name_open h z = record {
     wrote = record {
       above = inv.above;
-      is = sym (ap (follow (span w top t)) (chars_open st z)) ∙ ap (λ (l : List ℕ). follow (span w top t) (chars st l)) (sym (span_none s i to h)) ∙ inv.is;
+      is = sym (ap (follow (span w top t)) (chars_open state z)) ∙ ap (λ (l : List ℕ). follow (span w top t) (chars (state_of state) l)) (sym (span_none s i to h)) ∙ inv.is;
       ends = tt;
     };
   }
 
-  module _ {r : Step} {b : ℕ} (lt : i < to) (same : b ≡ cell s i) (p : Next st b r) where
-    turn : (o : Step) → r ≡ o → follow (span w top t) (after (step_of o) (λ (q : ℕ). chars q (span s (i + 1) to))) ≡ name (span s from to)
+  pub name_fits : Fits state
+  name_fits = inv.fits
+
+  pub name_place : Room s from to w₀ top → i < to → t < length w
+  name_place h lt = let l = inv.above.same_length in omega (arith, h.room, inv.short, inv.low)
+
+  module _ {r : std.Option Step} (lt : i < to) (p : Next state (cell s i) r) where
+    turn : (o : std.Option Step) → r ≡ o → follow (span w top t) (after (step_of o) (λ (q : ℕ). chars q (span s (i + 1) to))) ≡ name (span s from to)
     turn o e =
-        ap (λ (o : Read). follow (span w top t) (after o (λ (q : ℕ). chars q (span s (i + 1) to)))) (ap step_of (sym e) ∙ p.is ∙ ap (next st) same)
-        ∙ ap (λ (l : List ℕ). follow (span w top t) (chars st l)) (sym (span_next s i to lt))
+        ap (λ (o : Read). follow (span w top t) (after o (λ (q : ℕ). chars q (span s (i + 1) to)))) (ap step_of (sym e) ∙ p.is)
+        ∙ ap (λ (l : List ℕ). follow (span w top t) (chars (state_of state) l)) (sym (span_next s i to lt))
         ∙ inv.is
 
-    pub name_bad : r ≡ Wrong → Named s from to top w₀ w Bad
-    name_bad e = record { wrote = record { above = inv.above; is = turn Wrong e; ends = tt } }
+    pub name_bad : r ≡ None → Named s from to top w₀ w None
+    name_bad e = record { wrote = record { above = inv.above; is = turn None e; ends = tt } }
 
-    pub name_move : {q : ℕ} → r ≡ Move q → Naming s from to top w₀ w q (i + 1) t
+    pub name_move : {q : State} → r ≡ Some (Move q) → Naming s from to top w₀ w q (i + 1) t
     name_move {q} e = record {
-      state = subst Small e p.small;
+      fits = subst Small e p.small;
       low = omega (arith, inv.low);
       high = omega arith;
       begun = inv.begun;
       short = omega (arith, inv.short, inv.low);
       above = inv.above;
-      is = turn (Move q) e;
+      is = turn (Some (Move q)) e;
     }
 
-    pub name_place : Room s from to w₀ top → t < length w
-    name_place h = let l = inv.above.same_length in omega (arith, h.room, inv.short, inv.low)
-
-    pub name_put : {x : ℕ} → Room s from to w₀ top → r ≡ Put x → Naming s from to top w₀ (set w t x) 0 (i + 1) (t + 1)
+    pub name_put : {x : ℕ} → Room s from to w₀ top → r ≡ Some (Put x) → Naming s from to top w₀ (set w t x) Plain (i + 1) (t + 1)
     name_put {x} h e = record {
-      state = omega arith;
+      fits = record { low = omega arith };
       low = omega (arith, inv.low);
       high = omega arith;
       begun = omega (arith, inv.begun);
       short = omega (arith, inv.short, inv.low);
       above = above_set t x inv.above inv.begun;
       is =
-          ap (λ (l : List ℕ). follow l (chars 0 (span s (i + 1) to))) (span_set w top t x inv.begun (name_place h))
+          ap (λ (l : List ℕ). follow l (chars 0 (span s (i + 1) to))) (span_set w top t x inv.begun (name_place h lt))
           ∙ sym (follow_more (span w top t) (x ∷ []) (chars 0 (span s (i + 1) to)))
-          ∙ turn (Put x) e;
+          ∙ turn (Some (Put x)) e;
     }

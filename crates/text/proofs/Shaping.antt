@@ -11,8 +11,8 @@ use Rattle.cells.specs.Part.{cell, part}
 use Rattle.cells.proofs.Parts.{run_next, run_none, run_whole}
 use Rattle.rules.specs.Plain.{◌>>=◌}
 use Rattle.rules.specs.Text.{pieces, by_shape, tagged}
-use Rattle.text.specs.declared.Got.{Got}
-use Rattle.text.specs.declared.Got.TheVariants.{Bad, To}
+use Rattle.std.specs.Prelude as std
+use Rattle.std.specs.Prelude.{None, Some}
 use Rattle.text.specs.Reads.{span, Seek, Above, Ends, got_words, left, FieldRoom, ShapeRoom, Field, Shaped}
 use Rattle.text.specs.Keywords.{shape_at}
 use Rattle.text.proofs.Leaves.{cut_some}
@@ -42,8 +42,8 @@ pub record Shaping (s : List ℕ) (from to : ℕ) (b : List ℕ) (kind n top : �
   pub above : Above (top + 1) w₀ w
   pub is : follow (span w (top + 1) t) (by_shape (part b (17 * kind + 10 + k) (n - k)) (left s i to)) ≡ by_shape (shape_at b kind) (left s from to)
 
-pub shape_start : {s : List ℕ} {from to : ℕ} {b : List ℕ} {kind top : ℕ} {w : List ℕ} → ShapeRoom s from to w top → Shaping s from to b kind (cell b (17 * kind + 9)) top w w from (top + 1) 0
-shape_start {s} {from} {to} {b} {kind} {top} {w} h = record {
+pub shape_start : {s : List ℕ} {from to : ℕ} {b : List ℕ} {kind n top : ℕ} {w : List ℕ} → n ≡ cell b (17 * kind + 9) → ShapeRoom s from to w top → Shaping s from to b kind n top w w from (top + 1) 0
+shape_start {s} {from} {to} {b} {kind} {n} {top} {w} e h = record {
   low = omega arith;
   high = h.order;
   begun = omega arith;
@@ -51,23 +51,23 @@ shape_start {s} {from} {to} {b} {kind} {top} {w} h = record {
   above = above_none;
   is =
       ap₂ {C = Option (List ℕ)} (λ (l q : List ℕ). follow l (by_shape q (left s from to))) (span_none w (top + 1) (top + 1) (omega arith))
-      (run_whole (cell b) (17 * kind + 10) (cell b (17 * kind + 9)))
+      (run_whole (cell b) (17 * kind + 10) n ∙ ap (part b (17 * kind + 10)) e)
       ∙ follow_nil (by_shape (shape_at b kind) (left s from to));
 }
 
-shape_bad : {s : List ℕ} {from to : ℕ} {sh : List ℕ} {top tag : ℕ} {w₀ w : List ℕ} → Above (top + 1) w₀ w → by_shape sh (left s from to) ≡ none → Shaped s from to tag sh top w₀ w Bad
+shape_bad : {s : List ℕ} {from to : ℕ} {sh : List ℕ} {top tag : ℕ} {w₀ w : List ℕ} → Above (top + 1) w₀ w → by_shape sh (left s from to) ≡ none → Shaped s from to tag sh top w₀ w None
 shape_bad {s} {from} {to} {sh} {top} {tag} a q = record { wrote = record { above = above_over above_none a (omega arith); is = sym (ap (tagged tag) q); ends = tt } }
 
 module _ {s : List ℕ} {from to : ℕ} {b : List ℕ} {kind n top : ℕ} {w₀ w : List ℕ} {i t k : ℕ} (inv : Shaping s from to b kind n top w₀ w i t k) where
   at_end_lem : n ≤ k → follow (span w (top + 1) t) (by_shape [] (left s i to)) ≡ by_shape (shape_at b kind) (left s from to)
   at_end_lem h = ap (λ (q : List ℕ). follow (span w (top + 1) t) (by_shape q (left s i to))) (sym (run_none (cell b) (17 * kind + 10) n k h)) ∙ inv.is
 
-  pub shape_few : k < n → to < i → Shaped s from to kind (shape_at b kind) top w₀ w Bad
+  pub shape_few : k < n → to < i → Shaped s from to kind (shape_at b kind) top w₀ w None
   shape_few h q = shape_bad inv.above
       (sym (ap₂ {C = Option (List ℕ)} (λ (x : List ℕ) (y : List (List ℕ)). follow (span w (top + 1) t) (by_shape x y))
       (sym (run_next (cell b) (17 * kind + 10) n k h)) (sym (left_none s i to q)) ∙ inv.is))
 
-  pub shape_done : ShapeRoom s from to w₀ top → n ≤ k → to < i → Shaped s from to kind (shape_at b kind) top w₀ (set w top kind) (To t)
+  pub shape_done : ShapeRoom s from to w₀ top → n ≤ k → to < i → Shaped s from to kind (shape_at b kind) top w₀ (set w top kind) (Some t)
   shape_done room h q = record {
     wrote = record {
       above = above_set top kind (above_over above_none inv.above (omega arith)) (omega arith);
@@ -80,7 +80,7 @@ module _ {s : List ℕ} {from to : ℕ} {b : List ℕ} {kind n top : ℕ} {w₀ 
     };
   }
 
-  pub shape_many : n ≤ k → i ≤ to → Shaped s from to kind (shape_at b kind) top w₀ w Bad
+  pub shape_many : n ≤ k → i ≤ to → Shaped s from to kind (shape_at b kind) top w₀ w None
   unfolding pieces
   shape_many h le =
       let now : left s i to ≡ pieces 9 (span s i to) = simp (le-ltb to i le) in
@@ -100,7 +100,7 @@ module _ {s : List ℕ} {from to : ℕ} {b : List ℕ} {kind n top : ℕ} {w₀ 
       room = let l = inv.above.same_length in omega (arith, room.room, inv.short, inv.low, y.low, y.high);
     }
 
-    module _ {w' : List ℕ} {r : Got} (lt : k < n) (p : Field s i e (cell b (17 * kind + 10 + k)) t w w' r) where
+    module _ {w' : List ℕ} {r : std.Option ℕ} (lt : k < n) (p : Field s i e (cell b (17 * kind + 10 + k)) t w w' r) where
       abbrev ahead : Option (List ℕ) → Option (List ℕ)
       ahead m = m >>= (λ (x : List ℕ). by_shape (part b (17 * kind + 10 + (k + 1)) (n - (k + 1))) (left s (e + 1) to) >>= (λ (xs : List ℕ). some (x ++ xs)))
 
@@ -113,12 +113,12 @@ module _ {s : List ℕ} {from to : ℕ} {b : List ℕ} {kind n top : ℕ} {w₀ 
       above_too : Above (top + 1) w₀ w'
       above_too = above_over inv.above p.wrote.above inv.begun
 
-      pub shape_no : r ≡ Bad → Shaped s from to kind (shape_at b kind) top w₀ w' Bad
+      pub shape_no : r ≡ None → Shaped s from to kind (shape_at b kind) top w₀ w' None
       shape_no q = shape_bad above_too (sym (turn none (ap (got_words t w') q)))
 
-      pub shape_more : {u : ℕ} → r ≡ To u → Shaping s from to b kind n top w₀ w' (e + 1) u (k + 1)
+      pub shape_more : {u : ℕ} → r ≡ Some u → Shaping s from to b kind n top w₀ w' (e + 1) u (k + 1)
       shape_more {u} q =
-          let d : Ends t (e - i + 1) (To u) = subst (Ends t (e - i + 1)) q p.wrote.ends in
+          let d : Ends t (e - i + 1) (Some u) = subst (Ends t (e - i + 1)) q p.wrote.ends in
           record {
             low = omega (arith, inv.low, y.low);
             high = omega (arith, y.high);

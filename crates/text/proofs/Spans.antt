@@ -4,8 +4,8 @@ use Prim.Native.Nat.{ℕ, zero, suc, ◌+◌, ◌-◌, ◌≤◌, ◌<◌}
 use native.Mathlib.Omega.{arith}
 use native.Mathlib.Numerals.{add-one}
 use mathlib.Core.List.{List, [], ◌∷◌, ◌++◌}
-use lib.ListN.{length, set, take, drop, length-set}
-use lib.Seq.{get_or-set_other, drop-cons}
+use lib.ListN.{length, set, length-set}
+use lib.Seq.{get_or-set_other}
 use Rattle.cells.specs.Part.{run, cell, part}
 use Rattle.cells.proofs.Parts.{run_at, run_length, run_snoc, run_ext, part_set_snoc}
 use Rattle.text.specs.Reads.{span, Above}
@@ -103,9 +103,3 @@ span_two w top u v l =
     ap (span (set (set w top u) (top + 1) v) top) (omega arith)
     ∙ span_set (set w top u) top (top + 1) v (omega arith) (omega arith)
     ∙ ap (λ (x : List ℕ). x ++ (v ∷ [])) (span_one w top u (omega arith))
-
--- a part of a slice, as the code takes it
-pub part_taken : (s : List ℕ) (a n : ℕ) → a + n ≤ length s → take n (drop a s) ≡ part s a n
-part_taken s a zero h = refl
-part_taken s a (suc n) h =
-    ap (take (suc n)) (drop-cons s a 0 (omega arith)) ∙ ap (λ (l : List ℕ). cell s a ∷ l) (part_taken s (suc a) n (omega arith))

@@ -4,8 +4,8 @@ use Rattle.std.specs.Prelude.{◌≡◌, Bool, true, ℕ, zero, suc, ◌+◌, �
 use Rattle.cells.specs.Part.{run, cell, part}
 use Rattle.rules.specs.Plain.{both}
 use Rattle.rules.specs.Text.{Kind, by_shape, tagged, record_in}
-use Rattle.text.specs.declared.Num.{Num}
-use Rattle.text.specs.declared.Num.TheVariants.{No, Is}
+use Rattle.std.specs.Prelude as std
+use Rattle.std.specs.Prelude.{None, Some}
 use Rattle.text.specs.Reads.{span}
 use Rattle.std.proofs.Math.Option.{Option, none}
 
@@ -41,15 +41,15 @@ abbrev pub kinds_in : List ℕ → ℕ → List Kind
 kinds_in b n = run (kind_at b) 0 n
 
 -- the row of a line with the keyword of this kind
-abbrev pub record_of : List ℕ → Num → List (List ℕ) → Option (List ℕ)
-record_of b No fs = none
-record_of b (Is i) fs = tagged i (by_shape (shape_at b i) fs)
+abbrev pub record_of : List ℕ → std.Option ℕ → List (List ℕ) → Option (List ℕ)
+record_of b None fs = none
+record_of b (Some i) fs = tagged i (by_shape (shape_at b i) fs)
 
-abbrev pub Under : ℕ → Num → Type 0
-Under n No = Unit {0}
-Under n (Is i) = i < n
+abbrev pub Under : ℕ → std.Option ℕ → Type 0
+Under n None = Unit {0}
+Under n (Some i) = i < n
 
 -- the first of n kinds whose keyword stands between from and to
-pub record KindOf (b : List ℕ) (n : ℕ) (s : List ℕ) (from to : ℕ) (r : Num) : Type 0 where
+pub record KindOf (b : List ℕ) (n : ℕ) (s : List ℕ) (from to : ℕ) (r : std.Option ℕ) : Type 0 where
   pub is : (fs : List (List ℕ)) → record_of b r fs ≡ record_in (kinds_in b n) 0 (span s from to) fs
   pub under : Under n r

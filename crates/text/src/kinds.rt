@@ -4,7 +4,7 @@ ghost use Rattle.std.specs.Prelude.{◌≤◌, length};
 ghost use Rattle.text.specs.Reads.{FieldRoom, Word, Row};
 ghost use Rattle.text.specs.Keywords.{Byte, Slot, Slots, word_at, kinds_in, KindOf};
 
-use crate::{Got, Num, fields_of, seek};
+use crate::{fields_of, seek};
 
 // The lines of a table.
 pub const TABLE: [u8; 272] = *b"\
@@ -49,7 +49,7 @@ pub const HEADS: [u8; 51] = *b"\
 pub fn at(s: &[u8], i: usize) -> u8
     ensures { Byte s.now i result }
 {
-    if i < s.len() { s[i] } else { 0 }
+    s.get(i).copied().unwrap_or(0)
 }
 
 // Whether the keyword of kind i stands between from and to.
@@ -59,34 +59,22 @@ fn keyword(kinds: &[u8], i: u32, s: &[u8], from: usize, to: usize) -> bool
     ensures { Word s.now from to (word_at kinds.now i) result }
 {
     let a = 17 * i as usize;
-    let n = kinds[a] as usize;
-    if to - from != n {
-        return false;
-    }
-    let mut k = 0;
-    while k < n {
-        if s[from + k] != kinds[a + 1 + k] {
-            return false;
-        }
-        k += 1;
-    }
-    true
+    let n = usize::from(kinds[a]);
+    s[from..to] == kinds[a + 1..a + 1 + n]
 }
 
 // The first of n kinds whose keyword stands between from and to.
-fn kind_of(kinds: &[u8], n: u32, s: &[u8], from: usize, to: usize) -> Num
+fn kind_of(kinds: &[u8], n: u32, s: &[u8], from: usize, to: usize) -> Option<u32>
     requires from_le_to { (from ≤ to) × (to ≤ length s.now) }
     requires slots { Slots kinds.now n }
     ensures { KindOf kinds.now n s.now from to result }
 {
-    let mut i = 0;
-    while i < n {
+    for i in 0..n {
         if keyword(kinds, i, s, from, to) {
-            return Num::Is(i);
+            return Some(i);
         }
-        i += 1;
     }
-    Num::No
+    None
 }
 
 // The row of the line between from and to, by n kinds, written from top on.
@@ -98,14 +86,12 @@ pub fn row_of(
     n: u32,
     words: &mut [u32],
     top: usize,
-) -> Got
+) -> Option<usize>
     requires field_room { FieldRoom s.now from to words.old top }
     requires slots { Slots kinds.now n }
     ensures { Row (kinds_in kinds.now n) s.now from to top words.old words.new result }
 {
     let k = seek(s, from, to, 9);
-    let Num::Is(i) = kind_of(kinds, n, s, from, k) else {
-        return Got::Bad;
-    };
+    let i = kind_of(kinds, n, s, from, k)?;
     fields_of(s, k + 1, to, kinds, i, words, top)
 }

@@ -1,22 +1,19 @@
-use mathlib.Core.Path.{sym, ◌∙◌}
-use borrow.Author.Rules.{rules}
-use Rattle.cells.proofs.Parts.{left_whole, left_next, left_other, left_none}
+use mathlib.Core.Bool.{Bool}
+use mathlib.Core.Path.{◌≡◌, ap₂, ◌∙◌}
+use native.Mathlib.Omega.{arith}
+use Prim.Native.Nat.{ℕ, ◌+◌, ◌-◌}
+use Rattle.cells.specs.Part.{part, eq_list}
+use Rattle.cells.proofs.Parts.{part_eq}
 use Rattle.cells.proofs.same.Goals as goal
-
-pub loop-i-init : goal.loop-i-init
-loop-i-init c = let a = c.args in (search rules, left_whole a.s.now a.a a.b a.n)
-
-pub returns-then-s-a : goal.returns-then-s-a
-returns-then-s-a c =
-    let a = c.args in
-    sym (left_other a.s.now a.a a.b a.n c.loop-i.i (search rules) c.if-s-a.true) ∙ c.loop-i.invariant.1
-
-pub loop-i-preserved : goal.loop-i-preserved
-loop-i-preserved c =
-    let a = c.args in
-    (search rules, sym (left_next a.s.now a.a a.b a.n c.loop-i.i (search rules) c.if-s-a.false) ∙ c.loop-i.invariant.1)
 
 pub returns : goal.returns
 returns c =
-    let a = c.args in
-    sym (left_none a.s.now a.a a.b a.n c.loop-i.i c.loop-i-test.false) ∙ c.loop-i.invariant.1
+    let s = c.args.s.now in
+    let a = c.args.a in
+    let b = c.args.b in
+    let n = c.args.n in
+    let u : (a + n) - a ≡ n = omega arith in
+    let v : (b + n) - b ≡ n = omega arith in
+    c.eq.ensures
+    ∙ part_eq s s a (a + n) b (b + n) (omega arith) c.requires.0 (omega arith) c.requires.1
+    ∙ ap₂ {C = Bool} (λ (x y : ℕ). eq_list (part s a x) (part s b y)) u v

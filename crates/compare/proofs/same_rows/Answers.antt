@@ -1,14 +1,15 @@
-use Rattle.compare.proofs.Comparing.{rows_start, rows_other, rows_more, rows_done}
+-- The closure gives whether the i-th rows are the same.
+use mathlib.Core.Path.{refl}
+use Rattle.std.proofs.Common.{arith, rules}
+use Rattle.std.proofs.lemmas.Iterator.{YieldsList-from_range}
+use Rattle.std.proofs.lemmas.Iterator.Search.{all_from_yields_List}
+use Rattle.cells.specs.Part.{eq_list}
+use Rattle.compare.specs.Compares.{words_from}
+use Rattle.compare.proofs.Comparing.{nth, nth_is, rows_same}
 use Rattle.compare.proofs.same_rows.Goals as goal
 
-pub loop-i-init : goal.loop-i-init
-loop-i-init c = rows_start
-
-pub returns-then-not-same_words : goal.returns-then-not-same_words
-returns-then-not-same_words c = search rows_other
-
-pub loop-i-preserved : goal.loop-i-preserved
-loop-i-preserved c = search rows_more
-
 pub returns : goal.returns
-returns c = search rows_done
+returns c =
+    rows_same
+    (all_from_yields_List (λ k. eq_list (words_from c.args.old.now (nth c.args.p k)) (words_from c.args.table.now (nth c.args.p k))) _ _ c.all.result
+    c.all.ensures.ran (YieldsList-from_range 0 c.args.n c.args.n refl (omega arith)) (λ x b q k. search (rules, nth_is)))

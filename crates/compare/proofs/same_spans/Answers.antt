@@ -1,8 +1,5 @@
-use Rattle.compare.proofs.Comparing.{spans_longer, spans_same}
+use Rattle.compare.proofs.Comparing.{spans_longer}
 use Rattle.compare.proofs.same_spans.Goals as goal
 
-pub returns-then-n-between : goal.returns-then-n-between
-returns-then-n-between c = search spans_longer
-
-pub returns : goal.returns
-returns c = search spans_same
+pub returns-else-n-saturating_sub : goal.returns-else-n-saturating_sub
+returns-else-n-saturating_sub c = search spans_longer

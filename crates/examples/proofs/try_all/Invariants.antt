@@ -3,7 +3,7 @@ use Rattle.std.proofs.Common.{◌-◌, ◌≤◌}
 use Rattle.examples.proofs.try_all.Given as goal
 
 abbrev pub invariant-loop-a : goal.invariant-loop-a
-invariant-loop-a g l = (l.a ≤ l.n) × (l.tried ≤ l.a) × (l.differ ≤ l.a)
+invariant-loop-a g l = (l.a ≤ l.n) × (l.tally.tried ≤ l.a) × (l.tally.differ ≤ l.a)
 
 abbrev pub decreases-loop-a : goal.decreases-loop-a
 decreases-loop-a g l = l.n - l.a

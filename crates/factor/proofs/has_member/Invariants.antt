@@ -1,10 +1,6 @@
 -- The members from i on contain x exactly if all do.
 use Rattle.factor.proofs.Factors.{Having}
-use Prim.Native.Nat.{◌-◌}
 use Rattle.factor.proofs.has_member.Given as goal
 
 abbrev pub invariant-loop-i : goal.invariant-loop-i
 invariant-loop-i l = Having l.arena l.u l.x l.n l.i
-
-abbrev pub decreases-loop-i : goal.decreases-loop-i
-decreases-loop-i l = l.n - l.i

@@ -1,14 +1,9 @@
-use Rattle.factor.proofs.Factors.{lacking_start, lacking_here, lacking_more, lacking_done}
+use borrow.Author.Rules.{rules}
+use mathlib.Core.Bool.{not}
+use Prim.Native.Nat.{ℕ}
+use Rattle.factor.specs.Factors.{has_member}
+use Rattle.factor.proofs.Factors.{others_by, lacks_if}
 use Rattle.factor.proofs.in_all_others.Goals as goal
 
-pub loop-i-init : goal.loop-i-init
-loop-i-init c = lacking_start
-
-pub returns-then-not-has_member : goal.returns-then-not-has_member
-returns-then-not-has_member c = search lacking_here
-
-pub loop-i-preserved : goal.loop-i-preserved
-loop-i-preserved c = search lacking_more
-
 pub returns : goal.returns
-returns c = search lacking_done
+returns c = others_by _ (λ ns xs q h m. c.any_from.ensures.is (λ (u : ℕ). not (has_member c.args.x ns u)) m (λ u b lt a. search (rules, lacks_if)))

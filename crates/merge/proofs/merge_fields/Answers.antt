@@ -1,23 +1,28 @@
-use Rattle.merge.proofs.MergeFields.{sweeping_start, sweeping_fits, sweeping_less, sweeping_more, sweeping_refused, sweeping_done}
+use mathlib.Core.Path.{refl}
+use mathlib.Core.Logic.{inl, inr}
+use Rattle.std.proofs.lemmas.Result.{err_from_is_err_and}
+use Rattle.merge.proofs.MergeFields.{sweeping_start, sweeping_fits, sweeping_more, sweeping_refused, sweeping_done}
 use Rattle.merge.proofs.merge_fields.Goals as goal
 
-pub loop-arena-init : goal.loop-arena-init
-loop-arena-init c = search sweeping_start
+pub loop-k-init : goal.loop-k-init
+loop-k-init c = search sweeping_start
 
 pub overflow_add-k : goal.overflow_add-k
 overflow_add-k c = search sweeping_fits
 
-pub loop-arena-smaller : goal.loop-arena-smaller
-loop-arena-smaller c = search sweeping_less
-
-pub loop-arena-preserved : goal.loop-arena-preserved
-loop-arena-preserved c =
-    sweeping_more c.loop-arena.invariant c.goes_on.ensures c.loop-arena-test.true c.set_place-s.ensures c.next_field-next.ensures c.merge_field.ensures
-    c.in-On.is c.takes_old.ensures c.add-i.ensures c.takes_new.ensures c.add-j.ensures
+pub loop-k-preserved : goal.loop-k-preserved
+loop-k-preserved c =
+    sweeping_more c.loop-k.invariant c.if-j-m.either c.set_place-in-loop-k.ensures c.next_field-next.ensures c.in_ok-merge_field.ensures
+    refl c.takes_old.ensures c.add-i.ensures c.takes_new.ensures c.add-j.ensures
     c.merge_field.auto.arena c.merge_field.auto.held
 
-pub returns-in-Refused : goal.returns-in-Refused
-returns-in-Refused c = search sweeping_refused
+pub returns-in_err-merge_field : goal.returns-in_err-merge_field
+returns-in_err-merge_field c =
+    let p = err_from_is_err_and c.from_residual.result c.from_residual.ensures.1 in
+    rw (p.1, p.2) (sweeping_refused c.loop-k.invariant c.if-j-m.either c.set_place-in-loop-k.ensures c.next_field-next.ensures c.in_err-merge_field.ensures refl)
 
-pub returns : goal.returns
-returns c = search sweeping_done
+pub returns-else-j-m : goal.returns-else-j-m
+returns-else-j-m c = sweeping_done c.loop-k.invariant (inr c.if-j-m.false)
+
+pub returns-after-loop-k : goal.returns-after-loop-k
+returns-after-loop-k c = sweeping_done c.loop-k.invariant (inl c.loop-k-test.false)

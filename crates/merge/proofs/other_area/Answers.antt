@@ -5,5 +5,5 @@ use Rattle.merge.proofs.other_area.Goals as goal
 pub returns-then-a-h : goal.returns-then-a-h
 returns-then-a-h c = search area_behind
 
-pub returns : goal.returns
-returns c = search area_first
+pub returns-else-a-h : goal.returns-else-a-h
+returns-else-a-h c = search area_first

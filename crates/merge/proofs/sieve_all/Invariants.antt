@@ -1,10 +1,6 @@
 -- What the sets from i on leave of the keys that are left is what all sets leave of all keys.
 use Rattle.merge.proofs.Sieving.{Leaving}
-use Prim.Native.Nat.{◌-◌}
 use Rattle.merge.proofs.sieve_all.Given as goal
 
 abbrev pub invariant-loop-i : goal.invariant-loop-i
-invariant-loop-i l = Leaving l.arena l.initial.held l.b l.n l.s l.c l.held l.k l.i
-
-abbrev pub decreases-loop-i : goal.decreases-loop-i
-decreases-loop-i l = l.c - l.i
+invariant-loop-i l = Leaving l.arena l.initial.held l.b l.n l.sets.at l.sets.count l.held l.k l.i

@@ -2,8 +2,8 @@
 use Rattle.merge.proofs.MergeStore.{dyn_lacks, dyn_has}
 use Rattle.merge.proofs.write_dyn.Goals as goal
 
-pub returns-then-g-eq0 : goal.returns-then-g-eq0
-returns-then-g-eq0 c = search dyn_lacks
+pub returns-in-None : goal.returns-in-None
+returns-in-None c = search dyn_lacks
 
-pub returns : goal.returns
-returns c = search dyn_has
+pub returns-in-Some : goal.returns-in-Some
+returns-in-Some c = search dyn_has

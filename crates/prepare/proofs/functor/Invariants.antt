@@ -1,10 +1,6 @@
 -- The names from i on, counted from there, give the number that all names give.
 use Rattle.prepare.proofs.Facts.{Seeking}
-use Prim.Native.Nat.{◌-◌}
 use Rattle.prepare.proofs.functor.Given as goal
 
 abbrev pub invariant-loop-i : goal.invariant-loop-i
 invariant-loop-i l = Seeking l.table l.names l.i
-
-abbrev pub decreases-loop-i : goal.decreases-loop-i
-decreases-loop-i l = l.names - l.i

@@ -3,8 +3,8 @@ use Rattle.std.proofs.Common.{rules}
 use Rattle.programs.proofs.Showing.{shows_written, shows_refused}
 use Rattle.programs.proofs.shown.Goals as goal
 
-pub returns-in-Written : goal.returns-in-Written
-returns-in-Written c = shows_written c.in-Written.is
+pub returns-in-Ok : goal.returns-in-Ok
+returns-in-Ok c = shows_written c.in-Ok.is
 
-pub returns-in-Refused : goal.returns-in-Refused
-returns-in-Refused c = shows_refused c.in-Refused.is (search rules) (search rules) c.refused_call.ensures
+pub returns-in-Err : goal.returns-in-Err
+returns-in-Err c = shows_refused c.in-Err.is c.number.ensures (search rules) (search rules) (search rules)

@@ -5,11 +5,11 @@ use Rattle.text.proofs.dyn_of.Goals as goal
 pub returns-then-mark : goal.returns-then-mark
 returns-then-mark c = search dyn_none
 
-pub returns-in_default : goal.returns-in_default
-returns-in_default c = search dyn_bad
+pub returns-in_err-v : goal.returns-in_err-v
+returns-in_err-v c = rw c.from_residual.ensures (search (dyn_bad, c.in_err-v.was))
 
 pub bounds-words-top-3 : goal.bounds-words-top-3
-bounds-words-top-3 c = search dyn_place_lem
+bounds-words-top-3 c = search (dyn_place_lem, c.in_ok-v.was)
 
 pub returns : goal.returns
-returns c = search dyn_some
+returns c = search (dyn_some, c.in_ok-v.was)

@@ -1,12 +1,13 @@
 -- `text::escaped` meets its contract. Assumes nothing.
-use Rattle.text.proofs.Naming.{escaped_low, escaped_slash, escaped_else}
+use native.Mathlib.Omega.{arith}
+use Rattle.text.proofs.Naming.{escaped_yes, escaped_no}
 use Rattle.text.proofs.escaped.Goals as goal
 
-pub returns-then-b-lt32 : goal.returns-then-b-lt32
-returns-then-b-lt32 c = search escaped_low
+pub returns-in_default : goal.returns-in_default
+returns-in_default c = escaped_no (omega arith) (λ e. grind arith) (λ e. grind arith)
 
-pub returns-then-b-eq92 : goal.returns-then-b-eq92
-returns-then-b-eq92 c = search escaped_slash
+pub returns-in-0-to-31 : goal.returns-in-0-to-31
+returns-in-0-to-31 c = escaped_yes (λ g n m. omega arith)
 
-pub returns : goal.returns
-returns c = search escaped_else
+pub returns-in-0-to-31-2 : goal.returns-in-0-to-31-2
+returns-in-0-to-31-2 c = escaped_yes (λ g n m. omega arith)

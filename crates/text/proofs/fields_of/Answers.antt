@@ -10,11 +10,11 @@ returns-then-to-i c = search shape_few
 pub field_of-requires : goal.field_of-requires
 field_of-requires c = search shape_room
 
-pub returns-in-Bad : goal.returns-in-Bad
-returns-in-Bad c = search shape_no
+pub returns-in_err-t : goal.returns-in_err-t
+returns-in_err-t c = rw c.from_residual.ensures (search (shape_no, c.in_err-t.was))
 
 pub loop-k-preserved : goal.loop-k-preserved
-loop-k-preserved c = search shape_more
+loop-k-preserved c = search (shape_more, c.in_ok-t.was)
 
 pub returns-then-i-to : goal.returns-then-i-to
 returns-then-i-to c = search shape_many

@@ -1,18 +1,19 @@
 -- `text::hex` meets its contract. Assumes nothing.
-use Rattle.text.proofs.Naming.{hex_low, hex_digit_lem, hex_mid, hex_letter, hex_high}
+use Rattle.text.proofs.Naming.{hex_digit, hex_letter, hex_none}
+use native.Mathlib.Omega.{arith}
 use Rattle.text.proofs.hex.Goals as goal
 
-pub returns-then-b-lt48 : goal.returns-then-b-lt48
-returns-then-b-lt48 c = search hex_low
+pub returns-in-48-to-57 : goal.returns-in-48-to-57
+returns-in-48-to-57 c = hex_digit (omega arith) (omega arith) c.from.ensures
 
-pub returns-then-b-lt58 : goal.returns-then-b-lt58
-returns-then-b-lt58 c = search hex_digit_lem
+pub returns-in-97-to-102 : goal.returns-in-97-to-102
+returns-in-97-to-102 c = hex_letter (omega arith) (omega arith) c.from-in-97-to-102.ensures
 
-pub returns-then-b-lt97 : goal.returns-then-b-lt97
-returns-then-b-lt97 c = search hex_mid
+pub returns-in_default : goal.returns-in_default
+returns-in_default c = hex_none (λ g h. omega arith) (λ g h. omega arith)
 
-pub returns-then-b-lt103 : goal.returns-then-b-lt103
-returns-then-b-lt103 c = search hex_letter
+pub returns-in_default-2 : goal.returns-in_default-2
+returns-in_default-2 c = hex_none (λ g h. omega arith) (λ g h. omega arith)
 
-pub returns : goal.returns
-returns c = search hex_high
+pub returns-in_default-3 : goal.returns-in_default-3
+returns-in_default-3 c = hex_none (λ g h. omega arith) (λ g h. omega arith)

@@ -8,14 +8,14 @@ returns-then-e-to c = search keyed_alone
 pub returns-then-f-to : goal.returns-then-f-to
 returns-then-f-to c = search keyed_many
 
-pub returns-in_default : goal.returns-in_default
-returns-in_default c = search keyed_no_key
+pub returns-in_err-k : goal.returns-in_err-k
+returns-in_err-k c = rw c.from_residual.ensures (search (keyed_no_key, c.in_err-k.was))
 
-pub returns-in_default-number_of : goal.returns-in_default-number_of
-returns-in_default-number_of c = search keyed_no_id
+pub returns-in_err-i : goal.returns-in_err-i
+returns-in_err-i c = rw c.from_residual-in_err-i.ensures (search (keyed_no_id, c.in_ok-k.was, c.in_err-i.was))
 
 pub bounds-words-top-2 : goal.bounds-words-top-2
-bounds-words-top-2 c = search keyed_place
+bounds-words-top-2 c = search (keyed_place, c.in_ok-k.was, c.in_ok-i.was)
 
 pub returns : goal.returns
-returns c = search keyed_done
+returns c = search (keyed_done, c.in_ok-k.was, c.in_ok-i.was)

@@ -9,16 +9,16 @@ pub elements_of-requires : goal.elements_of-requires
 elements_of-requires c = search list_room
 
 pub overflow_sub-words : goal.overflow_sub-words
-overflow_sub-words c = search list_low
+overflow_sub-words c = search (list_low, c.in_ok-t.was)
 
 pub overflow_cast-words : goal.overflow_cast-words
-overflow_cast-words c = record { fits = search list_small }
+overflow_cast-words c = record { fits = search (list_small, c.in_ok-t.was) }
 
-pub bounds-words-top-in-To : goal.bounds-words-top-in-To
-bounds-words-top-in-To c = search list_place
+pub bounds-words-top-2 : goal.bounds-words-top-2
+bounds-words-top-2 c = search (list_place, c.in_ok-t.was)
 
-pub returns-in-Bad : goal.returns-in-Bad
-returns-in-Bad c = search list_bad
+pub returns-in_err-t : goal.returns-in_err-t
+returns-in_err-t c = rw c.from_residual.ensures (search (list_bad, c.in_err-t.was))
 
-pub returns-in-To : goal.returns-in-To
-returns-in-To c = search list_done
+pub returns : goal.returns
+returns c = search (list_done, c.in_ok-t.was)

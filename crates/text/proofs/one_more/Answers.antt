@@ -1,15 +1,12 @@
 -- `text::one_more` meets its contract. Assumes nothing.
-use Rattle.text.proofs.Leaves.{digit_low, digit_high, digit_big, digit_is}
+use Rattle.text.proofs.Leaves.{digit_out, digit_big, digit_is}
 use Rattle.text.proofs.one_more.Goals as goal
 
 pub returns-then-b-lt48 : goal.returns-then-b-lt48
-returns-then-b-lt48 c = search digit_low
+returns-then-b-lt48 c = digit_out c.then-b-lt48.either
 
-pub returns-then-b-gt57 : goal.returns-then-b-gt57
-returns-then-b-gt57 c = search digit_high
-
-pub returns-then-x-gt4294967295 : goal.returns-then-x-gt4294967295
-returns-then-x-gt4294967295 c = search digit_big
+pub returns-in_err-checked_mul : goal.returns-in_err-checked_mul
+returns-in_err-checked_mul c = digit_big c.if-b-lt48.false c.if-b-gt57.false c.in_err-checked_mul.ensures c.from_residual.ensures
 
 pub returns : goal.returns
-returns c = search digit_is
+returns c = digit_is c.if-b-lt48.false c.if-b-gt57.false c.checked_add.result c.in_ok-checked_mul.ensures.1 c.from.ensures c.checked_add.ensures

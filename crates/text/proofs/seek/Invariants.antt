@@ -1,10 +1,6 @@
 -- Between from and i no sep stands: what was passed is the first piece so far.
-use Prim.Native.Nat.{◌-◌}
 use Rattle.text.proofs.Leaves.{Seeking}
 use Rattle.text.proofs.seek.Given as goal
 
 abbrev pub invariant-loop-i : goal.invariant-loop-i
 invariant-loop-i l = Seeking l.s l.from l.to l.sep l.i
-
-abbrev pub decreases-loop-i : goal.decreases-loop-i
-decreases-loop-i l = l.to - l.i

@@ -1,8 +1,8 @@
 use Rattle.answers.proofs.Mixing.{tab_none, tab_one}
 use Rattle.answers.proofs.mixed.tab_before.Goals as goal
 
-pub returns-then-i-eq0 : goal.returns-then-i-eq0
-returns-then-i-eq0 c = tab_none c.if-i-eq0.true
+pub returns-then-i-ne0 : goal.returns-then-i-ne0
+returns-then-i-ne0 c = search tab_one
 
-pub returns : goal.returns
-returns c = search tab_one
+pub returns-else-i-ne0 : goal.returns-else-i-ne0
+returns-else-i-ne0 c = search tab_none

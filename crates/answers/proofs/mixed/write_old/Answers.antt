@@ -1,12 +1,10 @@
 -- A part that ends before it begins is empty, and of one that ends past the listing nothing is promised.
-use Rattle.answers.proofs.Mixing.{old_none, old_past, old_some}
+use mathlib.Core.Path.{refl}
+use Rattle.answers.proofs.Mixing.{old_none, old_some}
 use Rattle.answers.proofs.mixed.write_old.Goals as goal
 
-pub returns-then-to-from : goal.returns-then-to-from
-returns-then-to-from c = old_none c.if-to-from.true
+pub returns-in-Some : goal.returns-in-Some
+returns-in-Some c = (c.word.ensures.0, old_some c.in-Some.ensures.lookup.0.0 c.in-Some.ensures.lookup.0.2 c.word.ensures.1)
 
-pub returns-then-listing-to : goal.returns-then-listing-to
-returns-then-listing-to c = old_past c.if-listing-to.true
-
-pub returns : goal.returns
-returns c = search old_some
+pub returns-in_default : goal.returns-in_default
+returns-in_default c = (refl, old_none c.in_default.ensures.lookup.0)

@@ -2,8 +2,8 @@
 use Rattle.answers.proofs.Mixing.{lines_kept, lines_redone}
 use Rattle.answers.proofs.mixed.write_root.Goals as goal
 
-pub returns-then-is_kept : goal.returns-then-is_kept
-returns-then-is_kept c = search lines_kept
+pub returns-in-Some : goal.returns-in-Some
+returns-in-Some c = search lines_kept
 
 pub returns : goal.returns
 returns c = search lines_redone

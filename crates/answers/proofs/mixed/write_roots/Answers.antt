@@ -1,19 +1,18 @@
-use native.Mathlib.Omega.{arith}
 use mathlib.Core.Path.{refl, ◌∙◌}
 use Rattle.answers.proofs.Mixing.{listing_start, listing_next, listing_done}
 use Rattle.answers.proofs.mixed.write_roots.Goals as goal
 
 pub loop-i-init : goal.loop-i-init
-loop-i-init c = (refl, omega arith, refl, refl, listing_start)
+loop-i-init c = (refl, (refl, listing_start))
 
 pub loop-i-preserved : goal.loop-i-preserved
 loop-i-preserved c = (
-  refl,
-  omega arith,
-  c.write_root-p.auto.out ∙ c.loop-i.invariant.2,
-  c.write_root-p.auto.table ∙ c.loop-i.invariant.3,
-  listing_next c.loop-i.invariant.4 refl (omega arith) c.write_root-p.auto.arena c.write_root-p.auto.work c.write_root-p.ensures,
+  c.write_root.auto.table ∙ c.loop-i.invariant.0,
+  (
+    c.write_root.ensures.0 ∙ c.loop-i.invariant.1.0,
+    listing_next c.loop-i.invariant.1.1 c.loop-i-test.true c.write_root.auto.arena c.write_root.auto.work c.write_root.ensures.1,
+  ),
 )
 
 pub returns : goal.returns
-returns c = search listing_done
+returns c = (c.loop-i.invariant.1.0 ∙ c.answers.ensures.0, search listing_done)

@@ -5,5 +5,5 @@ use Rattle.answers.proofs.mixed.write_word.Goals as goal
 pub returns-then-is_kept : goal.returns-then-is_kept
 returns-then-is_kept c = search word_kept
 
-pub returns : goal.returns
-returns c = search word_redone
+pub returns-else-is_kept : goal.returns-else-is_kept
+returns-else-is_kept c = search word_redone

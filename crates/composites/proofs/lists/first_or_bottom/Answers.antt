@@ -1,8 +1,8 @@
 use Rattle.composites.proofs.Settled.{first_there, first_none}
 use Rattle.composites.proofs.lists.first_or_bottom.Goals as goal
 
-pub returns-in-At : goal.returns-in-At
-returns-in-At c = search first_there
+pub returns-in-Some : goal.returns-in-Some
+returns-in-Some c = first_there c.in-Some.is
 
-pub returns-in-Nowhere : goal.returns-in-Nowhere
-returns-in-Nowhere c = search first_none
+pub returns-in-None : goal.returns-in-None
+returns-in-None c = first_none c.in-None.is c.store_leaf.ensures

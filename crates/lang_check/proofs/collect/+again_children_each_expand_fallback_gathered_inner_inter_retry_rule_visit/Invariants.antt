@@ -1,7 +1,7 @@
 -- The measure is 20 for each free key, a rank for each function, and 2 for each fallback that may still begin: `visit` takes a key, and at equal
 -- keys each calls only what counts less. In the loop of `each` the first i ids held are answers by now, and the rules are as far.
 use Rattle.lang_check.proofs.Each.{Eaching}
-use Prim.Native.Nat.{◌*◌, ◌+◌, ◌-◌, ◌≤◌}
+use Prim.Native.Nat.{◌*◌, ◌+◌, ◌≤◌}
 use Rattle.lang_check.proofs.collect.+again_children_each_expand_fallback_gathered_inner_inter_retry_rule_visit.Given as goal
 
 abbrev pub decreases-again : goal.decreases-again
@@ -39,6 +39,3 @@ decreases-visit l = 20 * l.free
 
 abbrev pub invariant-each-loop-i : goal.invariant-each-loop-i
 invariant-each-loop-i l = (l.n ≤ 4294967295) × Eaching l.table l.c l.initial.arena l.initial.work l.free l.h l.initial.q l.n l.first l.pol l.arena l.work l.q l.i
-
-abbrev pub decreases-each-loop-i : goal.decreases-each-loop-i
-decreases-each-loop-i l = l.n - l.i

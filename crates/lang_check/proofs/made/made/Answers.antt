@@ -1,4 +1,5 @@
-use Rattle.lang_check.proofs.MadeOf.{made_lambda, made_set, made_union, made_one, made_refused}
+use mathlib.Core.Path.{refl}
+use Rattle.lang_check.proofs.MadeOf.{made_lambda, made_set, made_union, made_one}
 use Rattle.lang_check.proofs.made.made.Goals as goal
 
 pub returns-in-Lambda : goal.returns-in-Lambda
@@ -11,7 +12,4 @@ pub returns-in-Union : goal.returns-in-Union
 returns-in-Union c = search made_union
 
 pub returns-in_default : goal.returns-in_default
-returns-in_default c = search (made_one, c.in_default.not-Lambda, c.in_default.not-AttrSet, c.in_default.not-Union)
-
-pub returns-in-Refused : goal.returns-in-Refused
-returns-in-Refused c = search made_refused
+returns-in_default c = made_one refl c.in_default.not-Lambda c.in_default.not-AttrSet c.in_default.not-Union c.made_of_one.ensures

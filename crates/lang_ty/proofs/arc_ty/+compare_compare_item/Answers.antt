@@ -1,9 +1,13 @@
-use Rattle.lang_ty.proofs.Compare.{ordered_start, ordered_more, ordered_less, ordered_greater, ordered_done, kinds_decide, at_same, at_never, at_end_lem}
+use Rattle.lang_ty.proofs.Words.{numbered}
+use Rattle.lang_ty.proofs.Compare.{ordered_start, ordered_more, ordered_decided, ordered_done, kinds_decide, at_same, at_never, at_end_lem}
 use Rattle.lang_ty.proofs.Compare.{at_num, at_child_end, at_child_num, at_deeper}
 use Rattle.lang_ty.proofs.arc_ty.+compare_compare_item.Goals as goal
 
 pub compare-returns-then-j-k : goal.compare-returns-then-j-k
-compare-returns-then-j-k t c = search kinds_decide
+compare-returns-then-j-k t c =
+    let one = numbered c.kind.ensures c.number-j.ensures in
+    let two = numbered c.kind-2.ensures c.number-k.ensures in
+    search kinds_decide
 
 pub compare-loop-i-init : goal.compare-loop-i-init
 compare-loop-i-init t c = search ordered_start
@@ -11,14 +15,17 @@ compare-loop-i-init t c = search ordered_start
 pub compare-loop-i-preserved : goal.compare-loop-i-preserved
 compare-loop-i-preserved t c = search ordered_more
 
-pub compare-returns-in-Less : goal.compare-returns-in-Less
-compare-returns-in-Less t c = search ordered_less
-
-pub compare-returns-in-Greater : goal.compare-returns-in-Greater
-compare-returns-in-Greater t c = search ordered_greater
+pub compare-returns-in_default : goal.compare-returns-in_default
+compare-returns-in_default t c =
+    let one = numbered c.kind.ensures c.number-j.ensures in
+    let two = numbered c.kind-2.ensures c.number-k.ensures in
+    search ordered_decided
 
 pub compare-returns : goal.compare-returns
-compare-returns t c = search ordered_done
+compare-returns t c =
+    let one = numbered c.kind.ensures c.number-j.ensures in
+    let two = numbered c.kind-2.ensures c.number-k.ensures in
+    search ordered_done
 
 pub compare_item-returns-then-x-y : goal.compare_item-returns-then-x-y
 compare_item-returns-then-x-y t c = search at_same

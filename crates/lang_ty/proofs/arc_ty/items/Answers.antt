@@ -1,14 +1,11 @@
-use Rattle.lang_ty.proofs.Items.{items_set, items_union, items_intersection, items_plain}
+use Rattle.lang_ty.proofs.Items.{items_set, items_list, items_plain}
 use Rattle.lang_ty.proofs.arc_ty.items.Goals as goal
 
-pub returns-then-k-eq-ATTR_SET : goal.returns-then-k-eq-ATTR_SET
-returns-then-k-eq-ATTR_SET c = search items_set
+pub returns-in-AttrSet : goal.returns-in-AttrSet
+returns-in-AttrSet c = search items_set
 
-pub returns-then-k-eq-UNION : goal.returns-then-k-eq-UNION
-returns-then-k-eq-UNION c = search items_union
+pub returns-in-Union : goal.returns-in-Union
+returns-in-Union c = search items_list
 
-pub returns-then-k-eq-INTERSECTION : goal.returns-then-k-eq-INTERSECTION
-returns-then-k-eq-INTERSECTION c = search items_intersection
-
-pub returns : goal.returns
-returns c = search items_plain
+pub returns-in_default : goal.returns-in_default
+returns-in_default c = search items_plain

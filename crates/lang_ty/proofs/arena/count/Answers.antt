@@ -1,11 +1,8 @@
-use Rattle.lang_ty.proofs.Words.{count_union, count_intersection, count_none}
+use Rattle.lang_ty.proofs.Words.{count_some, count_none}
 use Rattle.lang_ty.proofs.arena.count.Goals as goal
 
-pub returns-then-k-eq-UNION : goal.returns-then-k-eq-UNION
-returns-then-k-eq-UNION c = search count_union
+pub returns-in-Union : goal.returns-in-Union
+returns-in-Union c = search count_some
 
-pub returns-then-k-eq-INTERSECTION : goal.returns-then-k-eq-INTERSECTION
-returns-then-k-eq-INTERSECTION c = search count_intersection
-
-pub returns : goal.returns
-returns c = search count_none
+pub returns-in_default : goal.returns-in_default
+returns-in_default c = search count_none

@@ -1,9 +1,6 @@
 -- Equal rows have equal hashes.
-use Rattle.lang_ty.proofs.Find.{hit_other, hit_same}
+use Rattle.lang_ty.proofs.Find.{hit_other}
 use Rattle.lang_ty.proofs.arena.hit.Goals as goal
 
-pub returns-then-get-h : goal.returns-then-get-h
-returns-then-get-h c = search hit_other
-
-pub returns : goal.returns
-returns c = search hit_same
+pub returns-else-get-h : goal.returns-else-get-h
+returns-else-get-h c = search hit_other

@@ -2,8 +2,8 @@
 use Rattle.lang_ty.proofs.Intern.{interned_old, interned_new}
 use Rattle.lang_ty.proofs.arena.intern.Goals as goal
 
-pub returns-in-At : goal.returns-in-At
-returns-in-At c = search interned_old
+pub returns-in-Some : goal.returns-in-Some
+returns-in-Some c = search interned_old
 
-pub returns-in-Nowhere : goal.returns-in-Nowhere
-returns-in-Nowhere c = search interned_new
+pub returns-in-None : goal.returns-in-None
+returns-in-None c = search interned_new

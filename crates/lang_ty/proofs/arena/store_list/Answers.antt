@@ -1,3 +1,4 @@
+use mathlib.Core.Path.{sym}
 use Rattle.lang_ty.proofs.Rows.{listed_many, listed_few}
 use Rattle.lang_ty.proofs.arena.store_list.Goals as goal
 
@@ -5,4 +6,4 @@ pub returns-then-n-gt-MEMBERS : goal.returns-then-n-gt-MEMBERS
 returns-then-n-gt-MEMBERS c = search listed_many
 
 pub returns : goal.returns
-returns c = search listed_few
+returns c = rw (sym c.number.ensures) (search listed_few)

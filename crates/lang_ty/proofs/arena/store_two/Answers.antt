@@ -1,5 +1,6 @@
+use mathlib.Core.Path.{sym}
 use Rattle.lang_ty.proofs.Rows.{stored_three}
 use Rattle.lang_ty.proofs.arena.store_two.Goals as goal
 
 pub returns : goal.returns
-returns c = search stored_three
+returns c = rw (sym c.number.ensures) (search stored_three)

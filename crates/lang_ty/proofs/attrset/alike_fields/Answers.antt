@@ -5,9 +5,6 @@ use Rattle.lang_ty.proofs.attrset.alike_fields.Goals as goal
 pub returns-then-words-p : goal.returns-then-words-p
 returns-then-words-p c = search alike_none
 
-pub returns-then-words-q : goal.returns-then-words-q
-returns-then-words-q c = search alike_none
-
 pub loop-r-init : goal.loop-r-init
 loop-r-init c = (search rules, comparing_start)
 

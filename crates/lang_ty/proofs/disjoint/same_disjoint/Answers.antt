@@ -1,14 +1,14 @@
-use Rattle.lang_ty.proofs.Shapes.{same_primitive, same_plain, same_first, same_second}
+use Rattle.lang_ty.proofs.Shapes.{same_primitive, same_first, same_second, same_plain}
 use Rattle.lang_ty.proofs.disjoint.same_disjoint.Goals as goal
 
-pub returns-then-k-eq-PRIMITIVE : goal.returns-then-k-eq-PRIMITIVE
-returns-then-k-eq-PRIMITIVE c = search same_primitive
-
-pub returns-then-k-ne-ATTR_SET : goal.returns-then-k-ne-ATTR_SET
-returns-then-k-ne-ATTR_SET c = search same_plain
+pub returns-in-Primitive : goal.returns-in-Primitive
+returns-in-Primitive c = search same_primitive
 
 pub returns-then-lacks : goal.returns-then-lacks
 returns-then-lacks c = search same_first
 
-pub returns : goal.returns
-returns c = search same_second
+pub returns-else-lacks : goal.returns-else-lacks
+returns-else-lacks c = search same_second
+
+pub returns-in_default : goal.returns-in_default
+returns-in_default c = search same_plain

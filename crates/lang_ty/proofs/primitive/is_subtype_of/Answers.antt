@@ -1,8 +1,8 @@
 use Rattle.lang_ty.proofs.Shapes.{subtype_no, subtype_yes}
 use Rattle.lang_ty.proofs.primitive.is_subtype_of.Goals as goal
 
-pub returns-then-b-ne2 : goal.returns-then-b-ne2
-returns-then-b-ne2 c = search subtype_no
+pub returns-then-b-eq2 : goal.returns-then-b-eq2
+returns-then-b-eq2 c = search subtype_yes
 
-pub returns : goal.returns
-returns c = search subtype_yes
+pub returns-else-b-eq2 : goal.returns-else-b-eq2
+returns-else-b-eq2 c = search subtype_no

@@ -4,5 +4,5 @@ use Rattle.listing.proofs.lines.before.Goals as goal
 pub returns-then-i-eq0 : goal.returns-then-i-eq0
 returns-then-i-eq0 c = search parted_first
 
-pub returns : goal.returns
-returns c = search parted_later
+pub returns-else-i-eq0 : goal.returns-else-i-eq0
+returns-else-i-eq0 c = search parted_later

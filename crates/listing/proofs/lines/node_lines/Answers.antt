@@ -1,8 +1,5 @@
-use Rattle.listing.proofs.NodeLines.{nodes_start, node_lines_more, node_lines_done}
+use Rattle.listing.proofs.NodeLines.{node_lines_more, node_lines_done}
 use Rattle.listing.proofs.lines.node_lines.Goals as goal
-
-pub loop-k-init : goal.loop-k-init
-loop-k-init c = nodes_start
 
 pub loop-k-preserved : goal.loop-k-preserved
 loop-k-preserved c = search node_lines_more

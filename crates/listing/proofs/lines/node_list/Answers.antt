@@ -1,17 +1,7 @@
-use Rattle.listing.proofs.Listings.{listing_start, nodes_more, listing_done, list_none}
 use borrow.Author.Rules.{rules}
+use Rattle.listing.proofs.Listings.{numbers_listed}
+use Rattle.listing.specs.Walks.{number_of}
 use Rattle.listing.proofs.lines.node_list.Goals as goal
 
-pub returns-then-n-eq0 : goal.returns-then-n-eq0
-returns-then-n-eq0 c = search list_none
-
-pub loop-i-init : goal.loop-i-init
-loop-i-init c = listing_start
-
-pub loop-i-preserved : goal.loop-i-preserved
-loop-i-preserved c =
-    nodes_more c.args.work.now c.loop-i.invariant c.loop-i-test.true
-    c.before-p.ensures c.place.ensures c.get.ensures c.number.ensures (search rules) c.decimal-p.ensures
-
 pub returns : goal.returns
-returns c = search listing_done
+returns c = (c.number_list.ensures.0, numbers_listed (number_of c.args.work.now) c.args.words.now c.args.a (λ i v lt e. search rules) c.number_list.ensures.1)

@@ -1,11 +1,11 @@
-use Rattle.members.proofs.Gathered.{grow_nothing, grow_one, grow_refused}
+use mathlib.Core.Path.{ap}
+use Rattle.std.specs.Prelude.{ℕ, Option, Ok}
+use Rattle.members.specs.AtMostOne.{at_most_one}
+use Rattle.members.proofs.Gathered.{grow_nothing, grow_one}
 use Rattle.members.proofs.lists.grow.Goals as goal
 
-pub returns-in-Nothing : goal.returns-in-Nothing
-returns-in-Nothing c = search grow_nothing
+pub returns-in-None : goal.returns-in-None
+returns-in-None c q = grow_nothing (ap (λ (v : Option ℕ). at_most_one (Ok v) q) c.in-None.is)
 
-pub returns-in-One : goal.returns-in-One
-returns-in-One c = search grow_one
-
-pub returns-in-Refused : goal.returns-in-Refused
-returns-in-Refused c = search grow_refused
+pub returns-in-Some : goal.returns-in-Some
+returns-in-Some c q = grow_one (ap (λ (v : Option ℕ). at_most_one (Ok v) q) c.in-Some.is) c.set.ensures c.add.ensures

@@ -1,17 +1,13 @@
-use Rattle.members.proofs.Gathered.{sifting_start, sifting_more, sifting_done}
 use borrow.Author.Rules.{rules}
+use Rattle.lang_ty.specs.Nodes.{code}
+use Rattle.members.specs.Lists.{of_kind}
+use Rattle.members.proofs.Gathered.{kind_wanted, kind_unwanted}
 use Rattle.members.proofs.lists.of_kind.Goals as goal
 
-pub loop-i-init : goal.loop-i-init
-loop-i-init c = (sifting_start, search rules)
+pub returns-then-wanted : goal.returns-then-wanted
+returns-then-wanted c =
+    record { is = λ {q} {ns} {xs} h t. c.sift.ensures.is (of_kind (code c.args.kind) c.args.wanted ns) t (λ x b lt a. search (rules, kind_wanted)) }
 
-pub loop-i-preserved : goal.loop-i-preserved
-loop-i-preserved c = (
-  sifting_more c.loop-i.invariant.0 c.loop-i-test.true c.at-x.ensures (record {
-    is = λ a h p lt. c.of_that_kind.ensures.is h lt;
-  }) c.keep_if-k.ensures,
-  search rules,
-)
-
-pub returns : goal.returns
-returns c = record { is = λ h t. (sifting_done c.loop-i.invariant.0 c.loop-i-test.false).is tt h tt t }
+pub returns-else-wanted : goal.returns-else-wanted
+returns-else-wanted c =
+    record { is = λ {q} {ns} {xs} h t. c.sift-else-wanted.ensures.is (of_kind (code c.args.kind) c.args.wanted ns) t (λ x b lt a. search (rules, kind_unwanted)) }

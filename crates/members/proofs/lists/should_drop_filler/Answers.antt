@@ -1,17 +1,16 @@
-use Rattle.members.proofs.Gathered.{drops_bottom, drops_top, drops_other, drops_past, drops_fact}
+use mathlib.Core.Path.{ap}
+use Rattle.lang_ty.specs.Nodes.{code}
+use Rattle.members.proofs.Gathered.{drops_filler, drops_none, drops_past, drops_fact}
 use Rattle.members.proofs.lists.should_drop_filler.Goals as goal
 
-pub returns-then-k-eq-BOTTOM : goal.returns-then-k-eq-BOTTOM
-returns-then-k-eq-BOTTOM c = search drops_bottom
-
-pub returns-then-k-eq-TOP : goal.returns-then-k-eq-TOP
-returns-then-k-eq-TOP c = search drops_top
-
-pub returns-then-k-ne-TY_VAR : goal.returns-then-k-ne-TY_VAR
-returns-then-k-ne-TY_VAR c = search drops_other
+pub returns-in-Bottom : goal.returns-in-Bottom
+returns-in-Bottom c = search drops_filler
 
 pub returns-then-count-v : goal.returns-then-count-v
-returns-then-count-v c = search drops_past
+returns-then-count-v c = search (drops_past, ap code c.in-TyVar.is)
 
-pub returns : goal.returns
-returns c = search drops_fact
+pub returns-else-count-v : goal.returns-else-count-v
+returns-else-count-v c = search (drops_fact, ap code c.in-TyVar.is)
+
+pub returns-in_default : goal.returns-in_default
+returns-in_default c = search drops_none

@@ -1,8 +1,6 @@
-use Rattle.members.proofs.Gathered.{last_node, last_refused}
+use mathlib.Core.Path.{refl}
+use Rattle.members.proofs.Gathered.{last_node}
 use Rattle.members.proofs.lists.with_last.Goals as goal
 
-pub returns-in-Node : goal.returns-in-Node
-returns-in-Node c = search last_node
-
-pub returns-in-Refused : goal.returns-in-Refused
-returns-in-Refused c = search last_refused
+pub returns : goal.returns
+returns c q = last_node refl c.one.ensures c.joined.ensures

@@ -1,12 +1,13 @@
 -- All are of one kind exactly if none after the first is of another kind than the first.
-use Rattle.simplify.proofs.Contradiction.{same_none, same_primitive, same_others}
+use borrow.Author.Rules.{rules}
+use mathlib.Core.Path.{refl}
+use Rattle.lang_ty.specs.declared.arena.OutputTy.TheVariants as kinds
+use Rattle.lang_ty.proofs.Codes.{other}
+use Rattle.simplify.proofs.Asking.{any_asked}
+use Rattle.simplify.proofs.Contradiction.{of_other, same_others}
 use Rattle.simplify.proofs.intersections.all_same_non_primitive.Goals as goal
 
-pub returns-then-n-eq0 : goal.returns-then-n-eq0
-returns-then-n-eq0 c = search same_none
-
-pub returns-then-is : goal.returns-then-is
-returns-then-is c = search same_primitive
-
-pub returns : goal.returns
-returns c = search same_others
+pub returns-in_default : goal.returns-in_default
+returns-in_default c =
+    same_others c.if-m-eq0.false c.at.ensures c.kind.ensures (other kinds.Primitive c.in_default.not-Primitive)
+    (any_asked c.any_from.ensures (λ y b a. search (rules, of_other))) refl

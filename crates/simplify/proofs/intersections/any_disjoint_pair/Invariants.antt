@@ -1,10 +1,6 @@
 -- Two of all members are disjoint exactly if two of those from i on are.
 use Rattle.simplify.proofs.Contradiction.{Pairing}
-use Prim.Native.Nat.{◌-◌}
 use Rattle.simplify.proofs.intersections.any_disjoint_pair.Given as goal
 
 abbrev pub invariant-loop-i : goal.invariant-loop-i
-invariant-loop-i l = Pairing l.functor l.arena l.s l.n l.i
-
-abbrev pub decreases-loop-i : goal.decreases-loop-i
-decreases-loop-i l = l.n - l.i
+invariant-loop-i l = Pairing l.functor l.arena l.m l.i

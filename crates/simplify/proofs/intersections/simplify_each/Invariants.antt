@@ -2,11 +2,7 @@
 use Rattle.simplify.proofs.Simplified.{Simplifying}
 use mathlib.Core.Path.{◌≡◌}
 use lib.ListN.{length}
-use Prim.Native.Nat.{◌-◌}
 use Rattle.simplify.proofs.intersections.simplify_each.Given as goal
 
 abbrev pub invariant-loop-i : goal.invariant-loop-i
-invariant-loop-i l = Simplifying l.initial.arena l.initial.q l.g l.c l.ms l.n l.arena l.q l.out l.k l.i × (length l.arena ≡ length l.initial.arena) × (length l.out ≡ length l.initial.out)
-
-abbrev pub decreases-loop-i : goal.decreases-loop-i
-decreases-loop-i l = l.n - l.i
+invariant-loop-i l = Simplifying l.initial.arena l.initial.q l.negs l.m l.arena l.q l.out l.k l.i × (length l.arena ≡ length l.initial.arena) × (length l.out ≡ length l.initial.out)

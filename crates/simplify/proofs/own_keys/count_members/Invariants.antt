@@ -2,11 +2,7 @@
 use Rattle.simplify.proofs.OwnKeys.{Tallying}
 use mathlib.Core.Path.{◌≡◌}
 use lib.ListN.{length}
-use Prim.Native.Nat.{◌-◌}
 use Rattle.simplify.proofs.own_keys.count_members.Given as goal
 
 abbrev pub invariant-loop-i : goal.invariant-loop-i
-invariant-loop-i l = Tallying l.arena l.s l.n l.initial.counts l.counts l.i × (length l.counts ≡ length l.initial.counts)
-
-abbrev pub decreases-loop-i : goal.decreases-loop-i
-decreases-loop-i l = l.n - l.i
+invariant-loop-i l = Tallying l.arena l.m l.initial.counts l.counts l.i × (length l.counts ≡ length l.initial.counts)

@@ -2,11 +2,7 @@
 use Rattle.simplify.specs.OwnKeys.{MarksOwn}
 use mathlib.Core.Path.{◌≡◌}
 use lib.ListN.{length}
-use Prim.Native.Nat.{◌-◌}
 use Rattle.simplify.proofs.own_keys.mark_own.Given as goal
 
 abbrev pub invariant-loop-i : goal.invariant-loop-i
-invariant-loop-i l = MarksOwn l.arena l.s l.n l.initial.own l.own × (length l.own ≡ length l.initial.own)
-
-abbrev pub decreases-loop-i : goal.decreases-loop-i
-decreases-loop-i l = l.n - l.i
+invariant-loop-i l = MarksOwn l.arena l.m l.initial.own l.own × (length l.own ≡ length l.initial.own)

@@ -1,9 +1,6 @@
-use Rattle.simplify.proofs.Marked.{leaving_start, leaving_more, leaving_done}
+use Rattle.simplify.proofs.Marked.{leaving_more, leaving_done}
 use borrow.Author.Rules.{rules}
 use Rattle.simplify.proofs.unions.left.Goals as goal
-
-pub loop-i-init : goal.loop-i-init
-loop-i-init c = (leaving_start, search rules)
 
 pub loop-i-preserved : goal.loop-i-preserved
 loop-i-preserved c = (search leaving_more, search rules)

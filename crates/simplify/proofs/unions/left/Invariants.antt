@@ -2,11 +2,7 @@
 use Rattle.simplify.proofs.Marked.{Leaving}
 use mathlib.Core.Path.{◌≡◌}
 use lib.ListN.{length}
-use Prim.Native.Nat.{◌-◌}
 use Rattle.simplify.proofs.unions.left.Given as goal
 
 abbrev pub invariant-loop-i : goal.invariant-loop-i
-invariant-loop-i l = Leaving l.gone l.ms l.n l.out l.k l.i × (length l.out ≡ length l.initial.out)
-
-abbrev pub decreases-loop-i : goal.decreases-loop-i
-decreases-loop-i l = l.n - l.i
+invariant-loop-i l = Leaving l.gone l.m l.out l.k l.i × (length l.out ≡ length l.initial.out)

@@ -1,8 +1,5 @@
-use Rattle.simplify.proofs.Marked.{marks_not, marks_one}
+use Rattle.simplify.proofs.Marked.{marks_one}
 use Rattle.simplify.proofs.unions.mark_if.Goals as goal
 
 pub returns-then-taken : goal.returns-then-taken
 returns-then-taken c = search marks_one
-
-pub returns-else-taken : goal.returns-else-taken
-returns-else-taken c = search marks_not

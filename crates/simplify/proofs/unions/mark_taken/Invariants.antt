@@ -2,11 +2,7 @@
 use Rattle.simplify.proofs.Marked.{Marking}
 use mathlib.Core.Path.{◌≡◌}
 use lib.ListN.{length}
-use Prim.Native.Nat.{◌-◌}
 use Rattle.simplify.proofs.unions.mark_taken.Given as goal
 
 abbrev pub invariant-loop-j : goal.invariant-loop-j
-invariant-loop-j l = Marking l.arena l.s l.n l.i l.x l.initial.gone l.gone l.j × (length l.gone ≡ length l.initial.gone)
-
-abbrev pub decreases-loop-j : goal.decreases-loop-j
-decreases-loop-j l = l.n - l.j
+invariant-loop-j l = Marking l.arena l.m l.i l.x l.initial.gone l.gone l.j × (length l.gone ≡ length l.initial.gone)

@@ -1,9 +1,6 @@
--- `storage::entries::named_bound` meets its contract: the lowers stand before the uppers, so one found among them is the first of all. Assumes nothing.
-use Rattle.storage.proofs.EntryReads.{named_lower, named_upper}
+use Rattle.storage.proofs.EntryReads.{named_found}
+use Rattle.std.proofs.Common.{rules}
 use Rattle.storage.proofs.entries.named_bound.Goals as goal
 
-pub returns-in-At : goal.returns-in-At
-returns-in-At c = search named_lower
-
 pub returns : goal.returns
-returns c = search named_upper
+returns c = named_found c.find_named.result c.find_named.ensures c.or_else.ensures (λ p. search rules)

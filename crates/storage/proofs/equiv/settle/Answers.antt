@@ -1,9 +1,6 @@
-use Rattle.storage.proofs.Forests.{settling_start, settling_more, settling_done}
+use Rattle.storage.proofs.Forests.{settling_more, settling_done}
 use borrow.Author.Rules.{rules}
 use Rattle.storage.proofs.equiv.settle.Goals as goal
-
-pub loop-i-init : goal.loop-i-init
-loop-i-init c = (settling_start, search rules)
 
 pub loop-i-preserved : goal.loop-i-preserved
 loop-i-preserved c = (search settling_more, search rules)

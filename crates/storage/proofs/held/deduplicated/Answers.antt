@@ -1,9 +1,6 @@
 -- `storage::held::deduplicated` meets its contract: of more than 16 ids the first of each is kept, and the marks that tell them are taken away again. Assumes nothing.
-use Rattle.storage.proofs.HeldOnce.{dedup_few, dedup_many}
+use Rattle.storage.proofs.HeldOnce.{dedup_many}
 use Rattle.storage.proofs.held.deduplicated.Goals as goal
-
-pub returns-then-n-le16 : goal.returns-then-n-le16
-returns-then-n-le16 c = search dedup_few
 
 pub returns : goal.returns
 returns c = search dedup_many

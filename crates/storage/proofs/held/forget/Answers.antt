@@ -1,9 +1,6 @@
-use Rattle.storage.proofs.HeldOnce.{forgetting_start, forgetting_more, forgetting_done}
+use Rattle.storage.proofs.HeldOnce.{forgetting_more, forgetting_done}
 use borrow.Author.Rules.{rules}
 use Rattle.storage.proofs.held.forget.Goals as goal
-
-pub loop-i-init : goal.loop-i-init
-loop-i-init c = (forgetting_start, search rules)
 
 pub loop-i-preserved : goal.loop-i-preserved
 loop-i-preserved c = (search forgetting_more, search rules)

@@ -1,4 +1,4 @@
-use Rattle.storage.proofs.HeldIds.{fielding_start, fielding_more, fielding_done}
+use Rattle.storage.proofs.HeldIds.{fielding_start, fielding_more}
 use borrow.Author.Rules.{rules}
 use Rattle.storage.proofs.held.hold_fields.Goals as goal
 
@@ -7,6 +7,3 @@ loop-i-init c = (search fielding_start, search rules, search rules)
 
 pub loop-i-preserved : goal.loop-i-preserved
 loop-i-preserved c = (search fielding_more, search rules, search rules)
-
-pub returns : goal.returns
-returns c = search fielding_done

@@ -1,8 +1,5 @@
-use Rattle.storage.proofs.SetNodes.{putting_start, putting_more, putting_done}
+use Rattle.storage.proofs.SetNodes.{putting_more, putting_done}
 use Rattle.storage.proofs.sets.put_types.Goals as goal
-
-pub loop-i-init : goal.loop-i-init
-loop-i-init c = putting_start
 
 pub loop-i-preserved : goal.loop-i-preserved
 loop-i-preserved c = search putting_more

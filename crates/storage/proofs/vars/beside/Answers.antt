@@ -1,15 +1,11 @@
 -- `storage::vars::beside` meets its contract: the variable is stored first, and node x joins it unless that is a TyVar or Bottom. Assumes nothing.
-use Rattle.storage.proofs.Variables.{beside_tyvar, beside_bottom, beside_both, beside_refused}
+use mathlib.Core.Path.{ap}
+use Rattle.lang_ty.specs.Given.{given}
+use Rattle.lang_ty.specs.declared.arena.OutputTy.TheVariants as kinds
+use Rattle.lang_ty.proofs.Codes.{other}
+use Rattle.storage.proofs.Variables.{beside_both}
 use Rattle.storage.proofs.vars.beside.Goals as goal
 
-pub returns-then-k-eq-TY_VAR : goal.returns-then-k-eq-TY_VAR
-returns-then-k-eq-TY_VAR c = search beside_tyvar
-
-pub returns-then-k-eq-BOTTOM : goal.returns-then-k-eq-BOTTOM
-returns-then-k-eq-BOTTOM c = search beside_bottom
-
-pub returns-else-k-eq-BOTTOM : goal.returns-else-k-eq-BOTTOM
-returns-else-k-eq-BOTTOM c = search beside_both
-
-pub returns-in-Refused : goal.returns-in-Refused
-returns-in-Refused c = search beside_refused
+pub returns-in_default : goal.returns-in_default
+returns-in_default c =
+    search (beside_both, other kinds.TyVar c.in_default.not-TyVar, other kinds.Bottom c.in_default.not-Bottom, ap (λ r. given r c.variable.new.q) c.in_ok-y.was)

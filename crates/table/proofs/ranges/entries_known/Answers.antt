@@ -7,8 +7,8 @@ loop-i-init c = search entries_start
 pub loop-i-preserved : goal.loop-i-preserved
 loop-i-preserved c = search entries_more
 
-pub returns-else-entry_known : goal.returns-else-entry_known
-returns-else-entry_known c = search entries_no
+pub returns-then-not-entry_known : goal.returns-then-not-entry_known
+returns-then-not-entry_known c = search entries_no
 
 pub returns : goal.returns
 returns c = search entries_done

@@ -5,5 +5,5 @@ use Rattle.table.proofs.ranges.keys_known.Goals as goal
 pub returns-then-below : goal.returns-then-below
 returns-then-below c = search keyset_yes
 
-pub returns : goal.returns
-returns c = search keyset_no
+pub returns-else-below : goal.returns-else-below
+returns-else-below c = search keyset_no

@@ -5,5 +5,5 @@ use Rattle.table.proofs.ranges.named_known.Goals as goal
 pub returns-then-below : goal.returns-then-below
 returns-then-below c = search named_yes
 
-pub returns : goal.returns
-returns c = search named_no
+pub returns-else-below : goal.returns-else-below
+returns-else-below c = search named_no

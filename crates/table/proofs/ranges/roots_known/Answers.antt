@@ -7,8 +7,8 @@ loop-i-init c = search roots_start
 pub loop-i-preserved : goal.loop-i-preserved
 loop-i-preserved c = search roots_more
 
-pub returns-else-below : goal.returns-else-below
-returns-else-below c = search roots_no
+pub returns-then-not-below : goal.returns-then-not-below
+returns-then-not-below c = search roots_no
 
 pub returns : goal.returns
 returns c = search roots_done

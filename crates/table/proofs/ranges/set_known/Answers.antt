@@ -5,5 +5,5 @@ use Rattle.table.proofs.ranges.set_known.Goals as goal
 pub returns-then-below : goal.returns-then-below
 returns-then-below c = search set_yes
 
-pub returns : goal.returns
-returns c = search set_no
+pub returns-else-below : goal.returns-else-below
+returns-else-below c = search set_no

@@ -2,8 +2,8 @@
 use Rattle.table.proofs.Knowing.{var_no, var_yes}
 use Rattle.table.proofs.ranges.var_known.Goals as goal
 
-pub returns-then-below : goal.returns-then-below
-returns-then-below c = search var_yes
-
 pub returns : goal.returns
-returns c = search var_no
+returns c = search var_yes
+
+pub returns-then-not-below : goal.returns-then-not-below
+returns-then-not-below c = search var_no

@@ -1,4 +1,4 @@
-use Rattle.table.proofs.Cells.{compare_differ, compare_more, compare_more_left, compare_same, compare_short, compare_start}
+use Rattle.table.proofs.Cells.{compare_differ, compare_end, compare_more, compare_short, compare_start}
 use Rattle.table.proofs.rows.before.Goals as goal
 
 pub loop-i-init : goal.loop-i-init
@@ -13,8 +13,5 @@ returns-then-x-y c = search compare_differ
 pub loop-i-preserved : goal.loop-i-preserved
 loop-i-preserved c = search compare_more
 
-pub returns-then-k-t : goal.returns-then-k-t
-returns-then-k-t c = search compare_more_left
-
 pub returns : goal.returns
-returns c = search compare_same
+returns c = search compare_end

@@ -1,10 +1,6 @@
 -- `text::kinds::kind_of` meets its contract: the kinds that are left say the same as all. Assumes nothing.
-use Prim.Native.Nat.{◌-◌}
 use Rattle.text.proofs.Keywords.{Looking}
 use Rattle.text.proofs.kinds.kind_of.Given as goal
 
 abbrev pub invariant-loop-i : goal.invariant-loop-i
 invariant-loop-i l = Looking l.kinds l.n l.s l.from l.to l.i
-
-abbrev pub decreases-loop-i : goal.decreases-loop-i
-decreases-loop-i l = l.n - l.i

@@ -1,8 +1,0 @@
-use Rattle.listing.proofs.Texts.{sign_plus, sign_minus}
-use Rattle.listing.proofs.write.sign_field.Goals as goal
-
-pub returns-then-sign-eq0 : goal.returns-then-sign-eq0
-returns-then-sign-eq0 c = search sign_plus
-
-pub returns : goal.returns
-returns c = search sign_minus

@@ -1,7 +1,0 @@
--- `text::kinds::at` meets its contract. Assumes nothing.
-use mathlib.Core.Path.{sym}
-use lib.ListN.{get_or-eq_default}
-use Rattle.text.proofs.kinds.at.Goals as goal
-
-pub returns-else-i-s : goal.returns-else-i-s
-returns-else-i-s c = record { is = sym (get_or-eq_default c.args.s.now 0 c.if-i-s.false) }
