@@ -142,7 +142,7 @@ module _ {work₀ : List ℕ} {n count q₀ : ℕ} where
             record { got = xs; queued = g; upto = omega arith; since = λ x m. m; lead = λ x m. there m; done = λ j lt x m. absurd (omega arith) };
       }
 
-  module _ (work w : List ℕ) (q m i y : ℕ) (s : Spreading work₀ n count q₀ work q i) (same : length work ≡ length work₀) (inside : i < q)
+  module _ (work w : List ℕ) (q m i y : ℕ) (s : Spreading work₀ n count q₀ work q i) (inside : i < q)
       (get : y ≡ cell work (queue_at + i)) (mark : MarksBefore work n q y w m) where
     module _ {es : List Link} {xs : List ℕ} (h : Linked count work₀ n es) (g : Queued count work₀ q₀ xs) where
       abbrev was : SpreadAt count es xs work q i
@@ -165,7 +165,7 @@ module _ {work₀ : List ℕ} {n count q₀ : ℕ} where
           omega arith
 
       queue : Queued count w m (old ++ sources es y)
-      queue = (mark.is (linked_ext h same s.kept) known).is was.queued (h.known y)
+      queue = (mark.is (linked_ext h was.queued.room s.kept) known).is was.queued (h.known y)
 
       at : (j : ℕ) → j < q → get_or (add_all [] (old ++ sources es y)) j 0 ≡ get_or (add_all [] old) j 0
       at j lt =
@@ -204,14 +204,14 @@ module _ {work₀ : List ℕ} {n count q₀ : ℕ} where
             done = λ j lt x a. all_done j (eq-or-lt_of_le (omega arith)) x a;
           }
 
-  pub spreading_more : {work w : List ℕ} {q m i p y : ℕ} → Spreading work₀ n count q₀ work q i → length work ≡ length work₀ → i < count → i < q
+  pub spreading_more : {work w : List ℕ} {q m i p y : ℕ} → Spreading work₀ n count q₀ work q i → i < count → i < q
       → p ≡ queue_at + i
       → y ≡ cell work p → MarksBefore work n q y w m → Spreading work₀ n count q₀ w m (i + 1)
-  spreading_more {work} {w} {q} {m} {i} {p} {y} s same lt inside at get mark =
+  spreading_more {work} {w} {q} {m} {i} {p} {y} s lt inside at get mark =
       record {
         few = omega arith;
         kept = λ k less. mark.kept k less ∙ s.kept k less;
-        is = λ h g. now work w q m i y s same inside (get ∙ ap (cell work) at) mark h g;
+        is = λ h g. now work w q m i y s inside (get ∙ ap (cell work) at) mark h g;
       }
 
   pub spreading_done : {work : List ℕ} {q i : ℕ} → Spreading work₀ n count q₀ work q i → q ≤ i → Spreads work₀ n count q₀ work
@@ -364,21 +364,21 @@ cleared_queue {w = w} many room z =
 
 pub reaching_is : {old table work w₁ w₂ w₃ w₄ work' : List ℕ} {c : Canon} {n q : ℕ} → Clears work heads_at c.count w₁ → length w₁ ≡ length work
     → LinksAll old w₁ c w₂ n
-    → length w₂ ≡ length w₁ → Clears w₂ reached_at c.count w₃ → length w₃ ≡ length w₂ → MarksDiffering old table w₃ c w₄ q → length w₄ ≡ length w₃
+    → length w₂ ≡ length w₁ → Clears w₂ reached_at c.count w₃ → length w₃ ≡ length w₂ → MarksDiffering old table w₃ c w₄ q
     → Spreads w₄ n c.count q work' → MarksReaching old table work c work'
-reaching_is {w₃ = w₃} {work' = work'} {c} {n} z₁ l₁ link l₂ z₃ l₃ mark l₄ spread =
+reaching_is {w₃ = w₃} {work' = work'} {c} {n} z₁ l₁ link l₂ z₃ l₃ mark spread =
     record {
       is = λ {u} {t} s root lt.
           let room = s.room in
           let many = s.entries in
           let linked = link.is s.reads s.ids (cleared_links many (omega arith) z₁) in
-          let later : Linked c.count w₃ n (links_of (reader_of u) c.count) = linked_ext linked l₃ (λ k less. z₃.before k less) in
           let queue = cleared_queue many (omega arith) z₃ in
+          let later : Linked c.count w₃ n (links_of (reader_of u) c.count) = linked_ext linked queue.room (λ k less. z₃.before k less) in
           let ids : List ℕ = run (λ (id : ℕ). id) 0 c.count in
           let under = filter_under (differs u t) c.count ids (run_under c.count 0 c.count (omega arith)) in
           let differ = (mark.is s.compared).is queue under in
           tells_redone u t c.count s.reads.known root lt (redone u t root) refl (cell work' (reached_at + root.id))
-          (spread.is (linked_ext later l₄ mark.kept) differ root.id lt);
+          (spread.is (linked_ext later differ.room mark.kept) differ root.id lt);
     }
 
 -- `flag_roots` at root i

@@ -2,7 +2,8 @@
 // differing entries at once, so that each entry and each id in it is looked at once for all roots.
 #![tactic(auto)]
 
-ghost use Rattle.std.specs.Prelude.{[], ◌∷◌};
+ghost use Rattle.std.specs.Prelude.{◌≡◌, [], ◌∷◌};
+ghost use Rattle.cells.specs.Part.{cell};
 ghost use Rattle.affected.specs.Reaches.{Marks, MarksIf, MarksDiffering, MarksBefore, Spreads, MarksReaching, FlagsRoots, FlagsRedone};
 
 use cells::{add, clear, get, place, put};
@@ -23,53 +24,76 @@ fn mark(work: &mut [u32], q: u32, x: u32) -> u32
     add(q, 1)
 }
 
-// Entry x marked if its rows differ.
-fn mark_if_differs(old: &[u32], table: &[u32], work: &mut [u32], c: Canon, q: u32, x: u32) -> u32
-    ensures { MarksIf old.now table.now work.old c q x work.new result }
-{
-    if same_row(old, table, add(c.base, x)) {
-        return q;
-    }
-    mark(work, q, x)
+// The entries marked so far: the slice that holds them in the order in which they were marked, and how many there are.
+#[derive(Drop)]
+struct Queue<'a> {
+    work: &'a mut [u32],
+    len: u32,
 }
 
-fn mark_differing(old: &[u32], table: &[u32], work: &mut [u32], c: Canon) -> u32
-    ensures { MarksDiffering old.now table.now work.old c work.new result }
-{
-    let count = c.count;
-    let mut q = 0;
-    for x in 0..count {
-        q = mark_if_differs(old, table, work, c, q, x);
+impl<'a> Queue<'a> {
+    fn cell(&self, at: usize) -> u32
+        ensures { result ≡ cell self.now.work.now at }
+    {
+        get(self.work, at)
     }
-    q
-}
 
-// Each entry marked that has a link to x; there are n links in all.
-fn mark_before(work: &mut [u32], n: u32, queued: u32, x: u32) -> u32
-    ensures { MarksBefore work.old n queued x work.new result }
-{
-    let mut q = queued;
-    let mut e = get(work, place(LinkSlice::HEAD, x));
-    for i in 0..n {
-        if e == 0 {
-            return q;
+    fn add(&mut self, x: u32)
+        ensures same { self.new.work.ghost_name ≡ self.old.work.ghost_name }
+        ensures made { Marks self.old.work.now self.old.len (x ∷ []) self.new.work.now self.new.len }
+    {
+        self.len = mark(self.work, self.len, x);
+    }
+
+    // Entry x marked if its rows differ.
+    fn add_if_differs(&mut self, old: &[u32], table: &[u32], c: Canon, x: u32)
+        ensures same { self.new.work.ghost_name ≡ self.old.work.ghost_name }
+        ensures made { MarksIf old.now table.now self.old.work.now c self.old.len x self.new.work.now self.new.len }
+    {
+        if !same_row(old, table, add(c.base, x)) {
+            self.add(x);
         }
-        q = mark(work, q, get(work, place(LinkSlice::FROM, e)));
-        e = get(work, place(LinkSlice::NEXT, e));
     }
-    q
-}
 
-// Each entry marked from which a chain of links goes to one in the queue. An entry is queued once, so count turns empty the queue.
-fn spread(work: &mut [u32], n: u32, count: u32, queued: u32)
-    ensures { Spreads work.old n count queued work.new }
-{
-    let mut q = queued;
-    for i in 0..count {
-        if q <= i {
-            return;
+    // Begun anew: each entry marked whose rows differ.
+    fn add_differing(&mut self, old: &[u32], table: &[u32], c: Canon)
+        ensures same { self.new.work.ghost_name ≡ self.old.work.ghost_name }
+        ensures made { MarksDiffering old.now table.now self.old.work.now c self.new.work.now self.new.len }
+    {
+        self.len = 0;
+        for x in 0..c.count {
+            self.add_if_differs(old, table, c, x);
         }
-        q = mark_before(work, n, q, get(work, place(LinkSlice::QUEUE, i)));
+    }
+
+    // Each entry marked that has a link to x; there are n links in all.
+    fn add_before(&mut self, n: u32, x: u32)
+        ensures same { self.new.work.ghost_name ≡ self.old.work.ghost_name }
+        ensures made { MarksBefore self.old.work.now n self.old.len x self.new.work.now self.new.len }
+    {
+        let mut e = self.cell(place(LinkSlice::HEAD, x));
+        for i in 0..n {
+            if e == 0 {
+                return;
+            }
+            let from = self.cell(place(LinkSlice::FROM, e));
+            self.add(from);
+            e = self.cell(place(LinkSlice::NEXT, e));
+        }
+    }
+
+    // Each entry marked from which a chain of links goes to one in the queue. An entry is queued once, so count turns empty the queue.
+    fn spread(&mut self, n: u32, count: u32)
+        ensures same { self.new.work.ghost_name ≡ self.old.work.ghost_name }
+        ensures made { Spreads self.old.work.now n count self.old.len self.new.work.now }
+    {
+        for i in 0..count {
+            if self.len <= i {
+                return;
+            }
+            let x = self.cell(place(LinkSlice::QUEUE, i));
+            self.add_before(n, x);
+        }
     }
 }
 
@@ -81,8 +105,9 @@ fn mark_reaching(old: &[u32], table: &[u32], work: &mut [u32], c: Canon)
     clear(work, LinkSlice::HEAD, c.count);
     let n = link_all(old, work, c);
     clear(work, LinkSlice::MARKS, c.count);
-    let q = mark_differing(old, table, work, c);
-    spread(work, n, c.count, q);
+    let mut queue = Queue { work, len: 0 };
+    queue.add_differing(old, table, c);
+    queue.spread(n, c.count);
 }
 
 // The mark of each root's entry, put into the spans. Where the roots' rows begin is told from first on.

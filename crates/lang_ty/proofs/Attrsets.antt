@@ -21,7 +21,7 @@ use Rattle.laws.specs.Sound.{Orderly}
 use Rattle.laws.proofs.Ascending.{From, Rising, rising_of, ascending_of, from_zero, rising_drop, contains_above, contains_first, contains_below}
 use Rattle.laws.proofs.Filtering.{all_here, all_more, all_done}
 use Rattle.cells.proofs.Choices.{true_false}
-use Rattle.laws.proofs.Rows.{attr_words_length, set_count, set_fields, set_dyn, set_open, set_optionals, set_optional, dyns_read, dyn_type_read, key_read, type_read}
+use Rattle.laws.proofs.Rows.{attr_words_length, set_fields, set_dyn, set_open, set_optionals, set_optional, dyns_read, dyn_type_read, key_read, type_read}
 use Rattle.lang_ty.specs.Sets.{SetAt, open_from, Fields, Key, FieldType, DynPlace, Dyns, DynType, OpenPlace, Open, Optionals, apart, reach}
 use Rattle.lang_ty.specs.Sets.{keys_at, Ahead, FieldKeys, OptionalKeys, KeysFrom, Starts, BehindFirst, HasField, Walked, Least, AlikeFields, WalkBehind, covers, FieldsCover}
 use Rattle.lang_ty.specs.declared.attrset.Keys.{Keys}
@@ -29,9 +29,6 @@ use Rattle.lang_ty.specs.declared.attrset.Walk.{Walk}
 use Rattle.cells.specs.Placed.{Holds}
 
 module _ {w : List ℕ} {a : ℕ} where
-  pub fields_is : {r : ℕ} → r ≡ cell w a → Fields w a r
-  fields_is e = record { is = λ {t} s. e ∙ set_count t s.words }
-
   -- place i + i + 1 or i + i + 2 after a
   twice : {t : Attr} {i j m p : ℕ} (d : ℕ) → SetAt w a t → d ≤ 2 → i < length t.fields → Sum i i j → Sum j d m → p ≡ a + m → p ≡ a + (i + i) + d
   twice {t} d s le lt two one e =

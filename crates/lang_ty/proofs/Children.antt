@@ -4,12 +4,12 @@ use mathlib.Core.Logic.{◌⊎◌, ⊎_elim}
 use Prim.Native.Nat.{ℕ, ◌+◌, ◌≤◌, ◌<◌}
 use native.Mathlib.Omega.{arith}
 use mathlib.Core.List.{List}
-use lib.ListN.{length, get_or, drop, length-append, length-drop, length-map, get_or-append}
+use lib.ListN.{length, get_or, length-append, length-drop, length-map, get_or-append}
 use lib.Seq.{get_or-drop, get_or-append-add}
 use Rattle.cells.specs.Sum.{Sum}
 use Rattle.rules.specs.Table.{Field, Attr, attr_kids, field_types, dyn_ids}
 use Rattle.rules.specs.Types.{Node, encode, children, node_at}
-use Rattle.laws.proofs.Rows.{attr_words_length, few_dyns, node_by, node_of, by_kind, members_only, children_behind}
+use Rattle.laws.proofs.Rows.{attr_words_length, few_dyns, node_by, node_of, members_only}
 use Rattle.lang_ty.specs.declared.arena.OutputTy.{OutputTy}
 use Rattle.lang_ty.specs.declared.arena.OutputTy.TheVariants as kinds
 use Rattle.lang_ty.specs.declared.arena.Pass.{Pass}
@@ -115,18 +115,3 @@ module _ {w : List ℕ} {x : ℕ} {k : OutputTy} (a : Kind w x (code k)) where
               ∙ ap (λ (j : ℕ). get_or (attr_kids t) j 0) z
               ∙ ap (λ (l : List ℕ). get_or l i 0) (kids h lt);
         }
-
-first : {k : ℕ} (j : ℕ) → k ≡ j → ((row : List ℕ) → drop 1 (encode (node_by j row)) ≡ children (node_by j row)) → FirstChild k 1
-first j e f =
-    record { is = λ n g b. by_kind n (λ (m : Node). drop 1 (encode m) ≡ children m) j (g ∙ e) (f (encode n)); small = omega arith }
-
-module _ {k : OutputTy} where
-  pub first_one : (k ≡ kinds.List) ⊎ ((k ≡ kinds.Lambda) ⊎ (k ≡ kinds.Neg)) → FirstChild (code k) 1
-  first_one e = ⊎_elim (λ z. first 2 (ap code z) (λ row. refl)) (λ f. ⊎_elim (λ z. first 3 (ap code z) (λ row. refl)) (λ z. first 8 (ap code z) (λ row. refl)) f) e
-
-  pub first_other : (k ≡ kinds.List → ⊥) → (k ≡ kinds.Lambda → ⊥) → (k ≡ kinds.Neg → ⊥) → FirstChild (code k) 2
-  first_other a b c =
-      record {
-        is = λ n g d. children_behind n (λ z. other kinds.List a (sym g ∙ z)) (λ z. other kinds.Lambda b (sym g ∙ z)) (λ z. other kinds.Neg c (sym g ∙ z)) (λ z. d (sym g ∙ z));
-        small = omega arith;
-      }

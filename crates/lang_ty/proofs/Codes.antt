@@ -54,25 +54,6 @@ kind_small rules.Top = omega arith
 pub other : {j : OutputTy} (k : OutputTy) → (j ≡ k → ⊥) → code j ≡ code k → ⊥
 other {j} k h e = h (code_injective j k e)
 
-code_small : (k : OutputTy) → code k ≤ 10
-code_small TyVar = omega arith
-code_small Primitive = omega arith
-code_small List = omega arith
-code_small Lambda = omega arith
-code_small AttrSet = omega arith
-code_small Union = omega arith
-code_small Intersection = omega arith
-code_small Named = omega arith
-code_small Neg = omega arith
-code_small Bottom = omega arith
-code_small Top = omega arith
-
-pub below_bottom : {k : OutputTy} → (k ≡ Bottom → ⊥) → (k ≡ Top → ⊥) → code k < 9
-below_bottom {k} a b = let e = other Bottom a in let f = other Top b in omega (arith, code_small k)
-
-pub above_primitive : {k : OutputTy} → (k ≡ TyVar → ⊥) → (k ≡ Primitive → ⊥) → 2 ≤ code k
-above_primitive {k} a b = let e = other TyVar a in let f = other Primitive b in omega arith
-
 -- a number by the kind that was read from it
 module _ {w : ℕ} {k : OutputTy} (j : OutputTy) (read : (w ≤ 10 → code k ≡ w) × (10 ≤ w → code k ≡ 10)) where
   pub word_is : code j < 10 → k ≡ j → w ≡ code j

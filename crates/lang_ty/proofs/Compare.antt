@@ -21,32 +21,6 @@ use Rattle.lang_ty.specs.Nodes.{Arena, Kind}
 use Rattle.lang_ty.specs.Sets.{Least}
 use Rattle.lang_ty.specs.Orders.{item_of, order_of, Numbers, Items, ItemAt, Plainly, ComparedAt, Compared}
 
--- two items, the first no child
-module _ {a b : Item} where
-  plainly : {x y : Item} {r : Ordering} → a ≡ x → b ≡ y → ((o : ℕ → ℕ → rules-order.Order) → order_of r ≡ compare_item o (item_of x) (item_of y)) → Plainly a b r
-  plainly e f g = record { is = λ o h. g o ∙ sym (ap₂ (λ (x y : Item). compare_item o (item_of x) (item_of y)) e f) }
-
-  pub end_end : a ≡ End → b ≡ End → Plainly a b Equal
-  end_end e f = plainly e f (λ o. refl)
-
-  pub end_num : {y : ℕ} → a ≡ End → b ≡ Num y → Plainly a b Less
-  end_num e f = plainly e f (λ o. refl)
-
-  pub end_child : {y : ℕ} → a ≡ End → b ≡ Child y → Plainly a b Less
-  end_child e f = plainly e f (λ o. refl)
-
-  pub num_end : {x : ℕ} → a ≡ Num x → b ≡ End → Plainly a b Greater
-  num_end e f = plainly e f (λ o. refl)
-
-  pub num_num : {x y : ℕ} {r : Ordering} → a ≡ Num x → b ≡ Num y → Numbers x y r → Plainly a b r
-  num_num e f g = plainly e f (λ o. g.is)
-
-  pub num_child : {x y : ℕ} → a ≡ Num x → b ≡ Child y → Plainly a b Less
-  num_child e f = plainly e f (λ o. refl)
-
-  pub child_any : {x : ℕ} → a ≡ Child x → Plainly a b Greater
-  child_any {x} e = record { is = λ o h. absurd (h x e) }
-
 -- item i of two nodes
 module _ {w : List ℕ} {a b i : ℕ} {x y : Item} (first : ItemAt w a i x) (second : ItemAt w b i y) where
   by_items : {p q : Item} {r : Ordering} → x ≡ p → y ≡ q

@@ -15,7 +15,7 @@ use Rattle.rules.specs.Order.{end, num, child, list_items, field_items, attr_ite
 use Rattle.rules.specs.Order as rules-order
 use Rattle.laws.proofs.Rows.{attr_words_length, field_words_length, set_fields, set_optional, node_of, by_kind}
 use Rattle.laws.proofs.Ordering.{list_items_lem, list_item, list_end, rest_items, set_items, set_length, by_turn, field_item}
-use Rattle.laws.proofs.Ordering.{field_end, field_rest, rest_none, rest_dyn, rest_behind, plain_length, number_item, name_item, child_item, one_content, no_content}
+use Rattle.laws.proofs.Ordering.{field_end, field_rest, rest_none, rest_dyn, rest_behind, plain_length}
 use Rattle.lang_ty.specs.declared.arena.OutputTy.{OutputTy}
 use Rattle.lang_ty.specs.declared.arena.OutputTy.TheVariants as kinds
 use Rattle.lang_ty.specs.declared.arena.Pass.{Pass}
@@ -25,7 +25,7 @@ use Rattle.lang_ty.specs.Nodes.{code, Arena, Word, Kind}
 use Rattle.lang_ty.specs.Sets.{SetAt, open_from, Fields, Dyns, DynType, OpenPlace, Open, Optionals}
 use Rattle.lang_ty.specs.Shapes.{SetPlace}
 use Rattle.lang_ty.specs.Orders.{SetItems, SetRest, SetItem, PlainKind, PlainItems, PlainItem, Composite, ListItem, Items, ItemAt}
-use Rattle.lang_ty.proofs.Codes.{other, below_bottom, above_primitive}
+use Rattle.lang_ty.proofs.Codes.{other}
 use Rattle.lang_ty.proofs.Words.{row_few, word_of}
 use Rattle.lang_ty.proofs.Shapes.{set_of, set_at_lem}
 
@@ -147,56 +147,6 @@ module _ {w : List ℕ} {a : ℕ} where
           odd : (k : ℕ) → (k ≡ 0 → ⊥) → child r ≡ by_turn k r
           odd zero h = absurd (h refl)
           odd (suc k) h = refl
-
--- nodes of a plain kind
-childish : {k i w : ℕ} → 2 ≤ k → (k ≡ 7 → i ≡ 0 → ⊥) → PlainItem k i w (Child w)
-childish {i = i} h f =
-    record {
-      is = λ n g p lt e.
-          ap child e ∙ sym (child_item n i (omega arith) (λ z. p.set (sym g ∙ z)) (λ z. p.union (sym g ∙ z)) (λ z. p.intersection (sym g ∙ z)) (λ z. f (sym g ∙ z)) lt);
-    }
-
-module _ {k : OutputTy} where
-  pub plain_two : (k ≡ kinds.Lambda) ⊎ (k ≡ kinds.Named) → PlainItems (code k) 2
-  plain_two e =
-      record {
-        is = λ n g p.
-            ⊎_elim (λ z. by_kind n (λ (m : Node). 2 ≡ length (contents m)) 3 (g ∙ ap code z) refl)
-            (λ z. by_kind n (λ (m : Node). 2 ≡ length (contents m)) 7 (g ∙ ap code z) refl) e;
-      }
-
-  pub plain_one : (k ≡ kinds.Lambda → ⊥) → (k ≡ kinds.Named → ⊥) → (k ≡ kinds.Bottom → ⊥) → (k ≡ kinds.Top → ⊥) → PlainItems (code k) 1
-  plain_one a b c d =
-      let low = below_bottom c d in
-      record {
-        is = λ n g p.
-            sym (one_content n (λ z. other kinds.Lambda a (sym g ∙ z)) (λ z. p.set (sym g ∙ z)) (λ z. p.union (sym g ∙ z)) (λ z. p.intersection (sym g ∙ z))
-            (λ z. other kinds.Named b (sym g ∙ z)) (omega arith));
-      }
-
-  pub plain_none : (k ≡ kinds.Bottom) ⊎ (k ≡ kinds.Top) → PlainItems (code k) 0
-  plain_none e =
-      let h : 9 ≤ code k = ⊎_elim (λ z. let y = ap code z in omega arith) (λ z. let y = ap code z in omega arith) e in
-      record { is = λ n g p. sym (ap length (no_content n (omega arith))) }
-
-  module _ {i w : ℕ} where
-    pub plain_number : (k ≡ kinds.TyVar) ⊎ (k ≡ kinds.Primitive) → PlainItem (code k) i w (Num w)
-    plain_number e =
-        let h : code k < 2 = ⊎_elim (λ z. let y = ap code z in omega arith) (λ z. let y = ap code z in omega arith) e in
-        record { is = λ n g p lt e. ap num e ∙ sym (number_item n i (omega arith) lt) }
-
-    pub plain_child : (k ≡ kinds.TyVar → ⊥) → (k ≡ kinds.Primitive → ⊥) → (k ≡ kinds.Named → ⊥) → PlainItem (code k) i w (Child w)
-    plain_child g h f = childish (above_primitive g h) (λ z y. other kinds.Named f z)
-
-    pub plain_name : k ≡ kinds.Named → i ≡ 0 → PlainItem (code k) i w (Num w)
-    plain_name h f =
-        record {
-          is = λ n g p lt e.
-              ap num (e ∙ ap (λ (j : ℕ). get_or (encode n) (suc j) 0) f) ∙ sym (ap (λ (j : ℕ). get_or (contents n) j end) f ∙ name_item n (g ∙ ap code h));
-        }
-
-    pub plain_type : k ≡ kinds.Named → (i ≡ 0 → ⊥) → PlainItem (code k) i w (Child w)
-    plain_type h f = let e = ap code h in childish (omega arith) (λ z y. f y)
 
 -- unions and intersections
 union_composite : (n : Node) → kind_of n ≡ 5 → Composite n

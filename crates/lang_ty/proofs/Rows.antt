@@ -1,5 +1,5 @@
 -- Rows written after the others, and kept. Assumes nothing.
-use mathlib.Core.Path.{◌≡◌, refl, sym, ap, ap₂, ◌∙◌, subst}
+use mathlib.Core.Path.{◌≡◌, refl, sym, ap, ◌∙◌, subst}
 use Prim.Native.Nat.{ℕ, suc, ◌+◌, ◌≤◌, ◌<◌}
 use native.Mathlib.Omega.{arith}
 use native.Mathlib.Numerals.{add-one}
@@ -60,9 +60,6 @@ pub record Copying (t : ℕ) (w₀ from : List ℕ) (a n : ℕ) (w : List ℕ) (
 
 pub copying_start : {t : ℕ} {w from : List ℕ} {a n : ℕ} → Copying t w from a n w 0
 copying_start {t} {w} = record { few = omega arith; written = written_none t w }
-
-pub copied : {t : ℕ} {w w' from : List ℕ} {a i p o v : ℕ} → p ≡ t + i → o ≡ a + i → v ≡ cell from o → w' ≡ set w p v → Copied t w from a i w'
-copied {w = w} {from = from} e f g h = record { is = h ∙ ap₂ (set w) e (g ∙ ap (cell from) f) }
 
 pub copying_more : {t : ℕ} {w₀ w w' from : List ℕ} {a n i : ℕ} → Copying t w₀ from a n w i → i < n → Copied t w from a i w' → Copying t w₀ from a n w' (i + 1)
 copying_more {from = from} {a = a} {i = i} h lt c =

@@ -7,9 +7,7 @@ use mathlib.Core.List.{List, [], ◌∷◌}
 use lib.ListN.{length}
 use lib.Dec.{eqb, ltb, leb}
 use borrow.Author.Tests.{eq-eqb, ne_eqb, leb-true, leb-false, lt-leb, not-true, not-false}
-use Rattle.cells.specs.Part.{cell, if}
-use Rattle.cells.specs.Sum.{Sum}
-use Rattle.cells.proofs.Holding.{holds_tail, holds_place}
+use Rattle.cells.specs.Part.{if}
 use Rattle.rules.specs.Plain.{any, all, both, contains}
 use Rattle.rules.specs.Table.{Attr, attr_at, field_keys}
 use Rattle.rules.specs.Types.{Node, encode, kind_of, node_at, as_attr}
@@ -24,8 +22,7 @@ use Rattle.lang_ty.specs.Nodes.{code, Arena, Word, Kind}
 use Rattle.lang_ty.specs.Sets.{SetAt, Open, HasField, covers, FieldsCover}
 use Rattle.lang_ty.specs.Shapes.{Subtype, SetPlace, Lacks, Apart, Constructor, SameDisjoint, Disjoint}
 use Rattle.lang_ty.proofs.Codes.{other}
-use Rattle.lang_ty.proofs.Words.{row_few, primitive_at}
-use Rattle.cells.specs.Placed.{Holds}
+use Rattle.lang_ty.proofs.Words.{primitive_at}
 
 pub subtype_no : {a b : ℕ} → (b ≡ 2 → ⊥) → Subtype a b (eqb b 2)
 unfolding is_subtype_of
@@ -34,20 +31,6 @@ subtype_no {a} {b} h = record { is = ne_eqb b 2 h ∙ sym (ap (λ (t : Bool). bo
 pub subtype_yes : {a b : ℕ} {r : Bool} → b ≡ 2 → r ≡ ltb a 2 → Subtype a b r
 unfolding is_subtype_of
 subtype_yes {a} {b} h e = record { is = e ∙ sym (ap (λ (t : Bool). both t (λ _. ltb a 2)) (eq-eqb b 2 h)) }
-
--- a set's place is after its node's kind
-pub set_place_is : {w : List ℕ} {x a r : ℕ} → a ≡ cell w x → Sum a 1 r → SetPlace w x r
-set_place_is {w} {x} {a} {r} e sum =
-    record {
-      is = λ {q} {ns} {t} h lt g.
-          let few = row_few h x lt in
-          let size = ap (λ (n : Node). length (encode n)) g in
-          let z : r ≡ suc (cell w x) = sum.is (omega arith) ∙ omega arith in
-          record {
-            words = holds_place (sym z) (holds_tail (subst (λ (n : Node). Holds w (cell w x) (encode n)) g (h.rows x lt)));
-            fits = omega arith;
-          };
-    }
 
 -- a field that t lacks and u requires: one that u's keys do not cover
 any_all : (p q : ℕ → Bool) (xs : List ℕ) → ((k : ℕ) → p k ≡ not (q k)) → any p xs ≡ not (all q xs)

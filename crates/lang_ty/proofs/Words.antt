@@ -19,9 +19,6 @@ use Rattle.lang_ty.specs.declared.arena.Pass.{Pass}
 use Rattle.lang_ty.proofs.Codes.{kind_small, other}
 use Rattle.lang_ty.specs.Nodes.{code, highest, Arena, Word, Kind, Is, Count, Member}
 
-pub word_is : {w : List ℕ} {x i a p r : ℕ} → a ≡ cell w x → p ≡ a + i → r ≡ cell w p → Word w x i r
-word_is {w} {x} {i} e f g = record { is = g ∙ ap (cell w) (f ∙ ap (λ (k : ℕ). k + i) e) }
-
 module _ {w : List ℕ} {q : Pass} {ns : List Node} (h : Arena w q ns) where
   -- the places ascend
   up : (d i : ℕ) → i + d ≡ length ns → cell w i ≤ cell w (length ns)

@@ -14,7 +14,7 @@ use Rattle.cells.specs.Part.{cell, part, if}
 use Rattle.cells.specs.Sum.{Sum}
 use Rattle.cells.specs.Placed.{Holds, Under}
 use Rattle.cells.proofs.Holding.{holds_place, holds_head, holds_tail}
-use Rattle.layout.specs.Layout.{heads_at, next_at, from_at, reached_at}
+use Rattle.layout.specs.Layout.{work_length, heads_at, next_at, from_at, reached_at}
 use Rattle.rules.specs.Ceilings.{most_ids}
 use Rattle.rules.specs.Table.{Field, kids, field_types, dyn_ids, var, prim, tyvar, list, fn, neg, named, inter, union, frozen}
 use Rattle.rules.specs.Table as rules
@@ -47,15 +47,14 @@ chained_ext w w' e (x ∷ xs) f g h =
     )
 
 -- in a slice that is alike below the marks
-pub linked_ext : {count n : ℕ} {w w' : List ℕ} {es : List Link} → Linked count w n es → length w' ≡ length w → ((k : ℕ) → k < reached_at → cell w' k ≡ cell w k)
+pub linked_ext : {count n : ℕ} {w w' : List ℕ} {es : List Link} → Linked count w n es → work_length ≤ length w' → ((k : ℕ) → k < reached_at → cell w' k ≡ cell w k)
     → Linked count w' n es
-linked_ext {count} {n} {w} {w'} {es} h same kept =
+linked_ext {count} {n} {w} {w'} {es} h room kept =
     let many = h.entries in
-    let room = h.room in
     let few = h.few in
     record {
       entries = h.entries;
-      room = omega arith;
+      room = room;
       size = h.size;
       few = h.few;
       known = h.known;
