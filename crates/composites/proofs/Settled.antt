@@ -123,6 +123,10 @@ module _ (kind : ℕ) {w work : List ℕ} {h n : ℕ} where
         }
 
 module _ {kind : ℕ} {w work : List ℕ} {h n : ℕ} {f : Flow} where
+  pub flat_refused : {k : ℕ} {r : Listed} → f ≡ Refused k → r.flow ≡ Refused k → Flattens kind w work h n f r
+  flat_refused {k} {r} e z =
+      record { is = λ o v. stopped (bind o (flattened kind)) w r z (bind_of (flattened kind) (subst (λ (x : Flow). HeldFlow o w work h n x) e v.is)) }
+
   pub flat_many : {q : Pass} {r : Listed} → f ≡ On q → most_members < n → r.flow ≡ Refused 7 → Flattens kind w work h n f r
   flat_many {r = r} e lt z =
       flat_by kind f e
@@ -136,9 +140,12 @@ module _ {kind : ℕ} {w work : List ℕ} {h n : ℕ} {f : Flow} where
   flat_over {r = r} e le l p lt z = flat_by kind f e (λ o d. stopped (bind o (flattened kind)) w r z (out_over kind le l p d lt))
 
   pub flat_on : {q : Pass} {a m : Members} → f ≡ On q → n ≤ most_members → Lists a (part work h n) → Spreads (flatten_composite kind) w a m → m.count ≤ most_members
-      → Flattens kind w work h n f (record { flow = f; members = m })
-  flat_on {m = m} e le l p few =
-      subst (λ (x : Flow). Flattens kind w work h n f (record { flow = x; members = m })) (sym e) (flat_by kind f e (λ o d. out_on kind le l p d few))
+      → Flattens kind w work h n f (record { flow = On q; members = m })
+  flat_on e le l p few = flat_by kind f e (λ o d. out_on kind le l p d few)
+
+  -- a kind by its number
+  pub flat_kind : {k : ℕ} {r : Listed} → kind ≡ k → Flattens kind w work h n f r → Flattens k w work h n f r
+  flat_kind {r = r} e a = subst (λ (k : ℕ). Flattens k w work h n f r) e a
 
 -- the ways of the steps
 pub fillers_out : {table w : List ℕ} {c : Canon} {l : Listed} {m : Members} → DropsFillers table preserved_at c.count w l.members m

@@ -1,7 +1,7 @@
 // Unions and intersections of canonicalize_concrete, once their members are visited.
 ghost use Rattle.std.specs.Prelude.{Ok};
 ghost use Rattle.lang_ty.specs.Given.{given};
-ghost use Rattle.members.specs.Flow.{On};
+ghost use Rattle.members.specs.Flow.{flow};
 ghost use Rattle.members.specs.Listed.{listed};
 ghost use Rattle.composites.specs.Tried.{tried};
 ghost use Rattle.composites.specs.Places.{UnionOf, TriesInter};
@@ -47,7 +47,7 @@ pub fn union_of(
 ) -> Result<u32, Refusal>
     ensures { UnionOf table.now c arena.old work.now h q.old pol arena.new (given result q.new) }
 {
-    let e = settle_union(table, c, arena, work, h, q, 2, pol)?;
+    let e = settle_union(table, c, arena, work, h, q, 2, Ok(()), pol);
     or_first(arena, q, e)
 }
 
@@ -88,7 +88,7 @@ fn inter_settled(
 {
     let s = simplify_union_neg_intersection(arena, c.functor, q, m)?;
     let f = factor_shared_from_intersection(arena, q, s)?;
-    let e = settle(arena, q, f, OutputTy::Intersection, cancelled, first)?;
+    let e = settle(arena, q, f, OutputTy::Intersection, cancelled, first);
     or_first(arena, q, e)
 }
 
@@ -164,12 +164,13 @@ pub fn inter_tried(
     work: &mut [u32],
     h: u32,
     q: &mut Pass,
+    f: Result<(), Refusal>,
     t: Try,
     pol: Polarity,
 ) -> Result<Outcome, Refusal>
-    ensures { TriesInter table.now c arena.old work.old h (On q.old) t pol arena.new work.new (tried result q.new) }
+    ensures { TriesInter table.now c arena.old work.old h (flow f q.old) t pol arena.new work.new (tried result q.new) }
 {
-    let all = flattened(arena, work, h, 2, OutputTy::Intersection)?;
+    let all = flattened(arena, work, h, 2, f, OutputTy::Intersection.number())?;
     let first = first_tried(t, all);
     let found = real_members(table, c, arena, all);
     let m = tried_members(c, arena, q, found, t)?;

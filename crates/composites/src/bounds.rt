@@ -1,7 +1,7 @@
 // expand_bounds after its visits.
 ghost use Rattle.std.specs.Prelude.{Ok};
 ghost use Rattle.rules.specs.declared.Polarity.TheVariants.{Negative};
-ghost use Rattle.members.specs.Flow.{On};
+ghost use Rattle.members.specs.Flow.{flow};
 ghost use Rattle.members.specs.Listed.{listed};
 ghost use Rattle.composites.specs.Settled.{settled};
 ghost use Rattle.composites.specs.Places.{Normalizes};
@@ -45,10 +45,11 @@ fn settle_intersection(
     h: u32,
     q: &mut Pass,
     n: u32,
+    f: Result<(), Refusal>,
 ) -> Result<Ending, Refusal>
-    ensures { Normalizes table.now c arena.old work.old h n (On q.old) Negative arena.new work.new (settled result q.new) }
+    ensures { Normalizes table.now c arena.old work.old h n (flow f q.old) Negative arena.new work.new (settled result q.new) }
 {
-    let all = flattened(arena, work, h, n, OutputTy::Intersection)?;
+    let all = flattened(arena, work, h, n, f, OutputTy::Intersection.number())?;
     let first = first_of(all);
     let m = real_members(table, c, arena, all);
     let merged = merge_attrset_intersection(arena, work, h, q, m)?;
@@ -64,12 +65,13 @@ pub fn normalize(
     h: u32,
     q: &mut Pass,
     n: u32,
+    f: Result<(), Refusal>,
     pol: Polarity,
 ) -> Result<Ending, Refusal>
-    ensures { Normalizes table.now c arena.old work.old h n (On q.old) pol arena.new work.new (settled result q.new) }
+    ensures { Normalizes table.now c arena.old work.old h n (flow f q.old) pol arena.new work.new (settled result q.new) }
 {
     match pol {
-        Polarity::Positive => settle_union(table, c, arena, work, h, q, n, pol),
-        Polarity::Negative => settle_intersection(table, c, arena, work, h, q, n),
+        Polarity::Positive => settle_union(table, c, arena, work, h, q, n, f, pol),
+        Polarity::Negative => settle_intersection(table, c, arena, work, h, q, n, f),
     }
 }

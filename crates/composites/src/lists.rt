@@ -2,13 +2,12 @@
 ghost use Rattle.lang_ty.specs.Nodes.{code};
 ghost use Rattle.lang_ty.specs.declared.arena.Pass.{Pass};
 ghost use Rattle.lang_ty.specs.Given.{given};
-ghost use Rattle.members.specs.Flow.{On};
+ghost use Rattle.members.specs.Flow.{flow};
 ghost use Rattle.members.specs.Listed.{listed};
 ghost use Rattle.members.specs.Lists.{Makes, DropsFillers};
 ghost use Rattle.layout.specs.Layout.{preserved_at};
 ghost use Rattle.composites.specs.Settled.{settled};
 ghost use Rattle.composites.specs.Lists.{Flattens, union_members, TopIfEmptied, SettlesList, FirstOrBottom, OrFirst, FirstMember, SettlesUnion};
-ghost use Rattle.std.specs.Prelude.{Ok};
 
 use lang_ty::arena;
 use lang_ty::arena::{OutputTy, Pass};
@@ -36,16 +35,18 @@ pub fn top_if_emptied(pol: Polarity, m: Members) -> bool
     }
 }
 
-// flatten_composite of the n answers held from h on; a refusal where they are too many before it or after it.
+// flatten_composite of the n answers held from h on; an earlier refusal stays, and too many before it or after it are refused.
 pub fn flattened(
     arena: &[u32],
     work: &[u32],
     h: u32,
     n: u32,
-    kind: OutputTy,
+    f: Result<(), Refusal>,
+    kind: u32,
 ) -> Result<Members, Refusal>
-    ensures { (q : Pass) → Flattens (code kind) arena.now work.now h n (On q) (listed result q) }
+    ensures { (q : Pass) → Flattens kind arena.now work.now h n (flow f q) (listed result q) }
 {
+    f?;
     if Pass::MEMBERS < n {
         return Err(Refusal::Members);
     }
@@ -114,10 +115,10 @@ fn first_or_bottom(arena: &mut [u32], q: &mut Pass, first: Option<u32>) -> Resul
 }
 
 // The node as which a list ends, or the first member before filtering.
-pub fn or_first(arena: &mut [u32], q: &mut Pass, e: Ending) -> Result<u32, Refusal>
-    ensures { OrFirst arena.old (settled (Ok e) q.old) arena.new (given result q.new) }
+pub fn or_first(arena: &mut [u32], q: &mut Pass, e: Result<Ending, Refusal>) -> Result<u32, Refusal>
+    ensures { OrFirst arena.old (settled e q.old) arena.new (given result q.new) }
 {
-    match e {
+    match e? {
         Ending::Node(x) => Ok(x),
         Ending::Empty(first) => first_or_bottom(arena, q, first),
     }
@@ -141,11 +142,12 @@ pub fn settle_union(
     h: u32,
     q: &mut Pass,
     n: u32,
+    f: Result<(), Refusal>,
     pol: Polarity,
 ) -> Result<Ending, Refusal>
-    ensures { SettlesUnion table.now c arena.old work.now h n (On q.old) pol arena.new (settled result q.new) }
+    ensures { SettlesUnion table.now c arena.old work.now h n (flow f q.old) pol arena.new (settled result q.new) }
 {
-    let all = flattened(arena, work, h, n, OutputTy::Union)?;
+    let all = flattened(arena, work, h, n, f, OutputTy::Union.number())?;
     let m = real_members(table, c, arena, all);
     let a = union_normalized(arena, m, pol);
     let cancelled = top_if_emptied(pol, m);

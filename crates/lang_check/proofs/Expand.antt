@@ -513,16 +513,3 @@ module _ {table : List ℕ} {c : Canon} {w work : List ℕ} {free h : ℕ} {q : 
               (λ k x s4 i j. own_refused p id pol kept k x s4 (ap (own_end p id pol kept) (sym i) ∙ j)) a
               (vars.is o po.knows.reps (stores_of g (λ x s3 i. (went x s3 i).fact) a)));
         }
-
--- an expansion that was refused is no node beside which its variable stays
-own_off : (p : runs.Pass) (id : ℕ) (pol : Polarity) (kept : Bool) (k : ℕ) → own_end p id pol kept (no k) ≡ no k
-own_off p id pol true k = refl
-own_off p id pol false k = refl
-
-pub expanded_refused : {table : List ℕ} {c : Canon} {w : List ℕ} {id k : ℕ} {pol : Polarity} {kept : Bool} → Expanded table c w (Refused k) id pol kept w (Refused k)
-expanded_refused {id = id} {k = k} {pol} {kept} = record { is = λ {p} o reps a. record { is = ap (own_end p id pol kept) a.is ∙ own_off p id pol kept k } }
-
--- answers that were refused are settled so
-pub normalizes_off : {table : List ℕ} {c : Canon} {w work : List ℕ} {h n k : ℕ} {pol : Polarity} → Normalizes table c w work h n (RefusedF k) pol w work (RefusedS k)
-normalizes_off {pol = pol} =
-    record { kept = λ j lt. refl; is = λ {p} o given v roomy. record { is = λ rest. ap (λ (o : Out (List ℕ)). bind o (λ xs. bounds_end p pol xs rest)) v.is } }

@@ -23,8 +23,6 @@ use Rattle.storage.specs.declared.given.Canon.{Canon}
 use Rattle.storage.specs.Entries.{Turned}
 use Rattle.storage.specs.Helds.{HoldsTwo}
 use Rattle.members.specs.Flow.{Flow}
-use Rattle.members.specs.Flow.{Refused as RefusedF}
-use Rattle.composites.specs.declared.binary.Try.{Try}
 use Rattle.composites.specs.declared.binary.Try.TheVariants.{First, Again as AgainT}
 use Rattle.composites.specs.Tried.{Tried}
 use Rattle.composites.specs.Tried.{Node as NodeT, Contradiction as ContradictionT, Refused as RefusedT}
@@ -191,13 +189,3 @@ module _ {table : List ℕ} {c : Canon} {w work : List ℕ} {free h : ℕ} {tr :
               ∙ ap (λ (z : Bool). if z (λ _. inter_retry p t (visit free p t) a b pol g.list) (λ _. store Bottom) g.after) variable))
               (re.is g.list g.first g.below poised g.stands la lb);
         }
-
--- answers that were refused are tried so
-pub tries_off : {table : List ℕ} {c : Canon} {w work : List ℕ} {h k : ℕ} {t : Try} {pol : Polarity} → TriesInter table c w work h (RefusedF k) t pol w work (RefusedT k)
-tries_off {pol = pol} =
-    record {
-      kept = λ j lt. refl;
-      once = λ {p} o given v roomy e. record { is = λ rest. ap (λ (o : Out (List ℕ)). bind o (λ xs. inter_first p pol xs rest)) v.is };
-      twice = λ {p} o ys y given v roomy e lead under.
-          record { is = λ rest. ap (λ (o : Out (List ℕ)). bind o (λ xs. inter_second p pol ys xs rest)) v.is };
-    }

@@ -163,7 +163,7 @@ fn inner(
         return vars::variable(table, c, arena, q, id);
     };
     let begun = notes::none_begun();
-    let x = expand(
+    let g = expand(
         table,
         c,
         arena,
@@ -176,8 +176,8 @@ fn inner(
         own.count,
         id,
         pol,
-    )?;
-    vars::expanded(table, c, arena, q, x, id, pol, own.kept)
+    );
+    vars::expanded(table, c, arena, q, g, id, pol, own.kept)
 }
 
 // expand_bounds of the n bounds held from h on, but for its fallback.
@@ -196,8 +196,8 @@ fn gathered(
     ensures { Gathered table.now c arena.old work.old free h q.old n pol arena.new work.new (settled result q.new) }
 {
     let m = held::deduplicated(work, h, n);
-    each(table, c, arena, work, free, h, q, m, pol, pol)?;
-    bounds::normalize(table, c, arena, work, h, q, m, pol)
+    let f = each(table, c, arena, work, free, h, q, m, pol, pol);
+    bounds::normalize(table, c, arena, work, h, q, m, f, pol)
 }
 
 // expand_bounds of the n bounds held from h on, for the variable id; chain is how many fallbacks may still begin.
@@ -317,8 +317,8 @@ fn inter(
     ensures { Inters table.now c arena.old work.old free h q.old a b pol arena.new work.new (given result q.new) }
 {
     let n = held::hold_two(work, h, a, b);
-    each(table, c, arena, work, free, h, q, n, pol, pol)?;
-    let t = binary::inter_tried(table, c, arena, work, h, q, Try::First, pol)?;
+    let f = each(table, c, arena, work, free, h, q, n, pol, pol);
+    let t = binary::inter_tried(table, c, arena, work, h, q, f, Try::First, pol)?;
     again(table, c, arena, work, free, h, q, t, a, b, pol)
 }
 
@@ -370,8 +370,8 @@ fn retry(
     let n = held::hold_two(work, h, a, b);
     let pa = entries::turned(table, c, a, pol);
     let pb = entries::turned(table, c, b, pol);
-    each(table, c, arena, work, free, h, q, n, pa, pb)?;
-    let t = binary::inter_tried(table, c, arena, work, h, q, Try::Again(y), pol)?;
+    let f = each(table, c, arena, work, free, h, q, n, pa, pb);
+    let t = binary::inter_tried(table, c, arena, work, h, q, f, Try::Again(y), pol)?;
     retried(arena, q, t)
 }
 

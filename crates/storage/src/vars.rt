@@ -1,7 +1,7 @@
 // A variable as a node: its representative, and itself beside what its bounds expand to.
 ghost use Rattle.std.specs.Prelude.{◌≡◌};
 ghost use Rattle.rules.specs.Canonicalizer.{composite_kind};
-ghost use Rattle.lang_ty.specs.Given.{Node, given};
+ghost use Rattle.lang_ty.specs.Given.{given};
 ghost use Rattle.lang_ty.specs.Nodes.{code};
 ghost use Rattle.storage.specs.Vars.{IsVariable, IsPreserved, Beside, Expanded};
 
@@ -62,19 +62,20 @@ fn beside(
     }
 }
 
-// The expansion x of a variable's bounds, beside the variable where it is preserved.
+// The expansion of a variable's bounds, beside the variable where it is preserved.
 pub fn expanded(
     table: &[u32],
     c: Canon,
     arena: &mut [u32],
     q: &mut Pass,
-    x: u32,
+    g: Result<u32, Refusal>,
     id: u32,
     pol: Polarity,
     kept: bool,
 ) -> Result<u32, Refusal>
-    ensures { Expanded table.now c arena.old (Node x q.old) id pol kept arena.new (given result q.new) }
+    ensures { Expanded table.now c arena.old (given g q.old) id pol kept arena.new (given result q.new) }
 {
+    let x = g?;
     if kept {
         return beside(table, c, arena, q, x, id, pol);
     }

@@ -14,11 +14,6 @@ returns-in_err-f c =
     let p = err_from_is_err_and c.from_residual-in_err-f.result c.from_residual-in_err-f.ensures.1 in
     rw (p.1, p.2) (inter_settled (steps_on refl c.in_ok-s.ensures) (steps_on refl c.in_err-f.ensures) (listed_off refl) (or_refused refl))
 
-pub returns-in_err-e : goal.returns-in_err-e
-returns-in_err-e c =
-    let p = err_from_is_err_and c.from_residual-in_err-e.result c.from_residual-in_err-e.ensures.1 in
-    rw (p.1, p.2) (inter_settled (steps_on refl c.in_ok-s.ensures) (steps_on refl c.in_ok-f.ensures) (listed_on refl c.in_err-e.ensures) (or_refused refl))
-
 pub returns : goal.returns
 returns c =
-    inter_settled (steps_on refl c.in_ok-s.ensures) (steps_on refl c.in_ok-f.ensures) (listed_on refl c.in_ok-e.ensures) c.or_first.ensures
+    inter_settled (steps_on refl c.in_ok-s.ensures) (steps_on refl c.in_ok-f.ensures) (listed_on refl c.settle-e.ensures) c.or_first.ensures

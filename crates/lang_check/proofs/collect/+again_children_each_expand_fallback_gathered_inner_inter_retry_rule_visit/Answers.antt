@@ -10,8 +10,7 @@ use Rattle.composites.specs.declared.binary.Outcome.{Outcome}
 use Rattle.lang_check.proofs.Rule.{children as makes-children, rules_variable, rules_inter, rules_made}
 use Rattle.lang_check.proofs.Visit.{visits_bailed, visits_over, visits_busy, visits_cached, visits_full, visits_works}
 use Rattle.lang_check.proofs.Expand.{gathers, expands_node, expands_empty, expands_refused, falls_spent, falls_cut, falls_on, inner_named, inner_variable, inner_bounds, nowhere}
-use Rattle.lang_check.proofs.Expand.{expanded_refused, normalizes_off}
-use Rattle.lang_check.proofs.Inter.{inters, retries, again_node, again_refused, again_bottom, again_retry, tries_off}
+use Rattle.lang_check.proofs.Inter.{inters, retries, again_node, again_refused, again_bottom, again_retry}
 use Rattle.lang_check.proofs.MadeOf.{made_refused, retried_refused}
 use Rattle.lang_check.proofs.Each.{eaching_start, eaching_more, each_refused, each_done}
 use Rattle.lang_check.proofs.Steps.{caches_node, caches_refused}
@@ -76,14 +75,9 @@ fallback-returns t c =
     falls_on c.if-chain-eq0.false c.begin_list-n.ensures c.begin_list-n.auto.work c.is_cut.ensures c.if-is_cut.false
     c.begin-next.ensures c.flip.ensures c.expand.ensures
 
-pub gathered-returns-in_err-each : goal.gathered-returns-in_err-each
-gathered-returns-in_err-each t c =
-    let p = err_from_is_err_and c.from_residual.result c.from_residual.ensures.1 in
-    rw (p.1, p.2) (gathers c.deduplicated-m.ensures c.deduplicated-m.auto.work c.in_err-each.ensures c.each.auto.work normalizes_off)
-
 pub gathered-returns : goal.gathered-returns
 gathered-returns t c =
-    gathers c.deduplicated-m.ensures c.deduplicated-m.auto.work c.in_ok-each.ensures c.each.auto.work c.normalize.ensures
+    gathers c.deduplicated-m.ensures c.deduplicated-m.auto.work c.each-f.ensures c.each-f.auto.work c.normalize.ensures
 
 pub inner-returns-in-Some : goal.inner-returns-in-Some
 inner-returns-in-Some t c = inner_named c.named_bound.ensures c.in-Some.is c.visit.ensures
@@ -93,49 +87,32 @@ inner-returns-in_default-own_bounds t c =
     inner_variable c.named_bound.ensures (nowhere c.named_bound.result c.in_default.not-Some) c.note.ensures c.own_bounds.ensures
     (ap own_of c.in_default-own_bounds.is) c.variable.ensures
 
-pub inner-returns-in_err-x : goal.inner-returns-in_err-x
-inner-returns-in_err-x t c =
-    let p = err_from_is_err_and c.from_residual.result c.from_residual.ensures.1 in
-    rw (p.1, p.2) (inner_bounds c.named_bound.ensures (nowhere c.named_bound.result c.in_default.not-Some) c.note.ensures c.own_bounds.ensures
-    (ap own_of c.in-Some-own_bounds.is) c.own_bounds.auto.work c.none_begun-begun.ensures c.in_err-x.ensures expanded_refused)
-
 pub inner-returns : goal.inner-returns
 inner-returns t c =
     inner_bounds c.named_bound.ensures (nowhere c.named_bound.result c.in_default.not-Some) c.note.ensures c.own_bounds.ensures
-    (ap own_of c.in-Some-own_bounds.is) c.own_bounds.auto.work c.none_begun-begun.ensures c.in_ok-x.ensures c.expanded.ensures
-
-pub inter-returns-in_err-each : goal.inter-returns-in_err-each
-inter-returns-in_err-each t c =
-    let p = err_from_is_err_and c.from_residual.result c.from_residual.ensures.1 in
-    rw (p.1, p.2) (inters c.hold_two-n.ensures c.in_err-each.ensures tries_off (again_refused refl) c.hold_two-n.auto.work c.each.auto.work refl)
+    (ap own_of c.in-Some-own_bounds.is) c.own_bounds.auto.work c.none_begun-begun.ensures c.expand-g.ensures c.expanded.ensures
 
 pub inter-returns-in_err-t : goal.inter-returns-in_err-t
 inter-returns-in_err-t t c =
-    let p = err_from_is_err_and c.from_residual-in_err-t.result c.from_residual-in_err-t.ensures.1 in
-    rw (p.1, p.2) (inters c.hold_two-n.ensures c.in_ok-each.ensures c.in_err-t.ensures (again_refused refl) c.hold_two-n.auto.work c.each.auto.work
+    let p = err_from_is_err_and c.from_residual.result c.from_residual.ensures.1 in
+    rw (p.1, p.2) (inters c.hold_two-n.ensures c.each-f.ensures c.in_err-t.ensures (again_refused refl) c.hold_two-n.auto.work c.each-f.auto.work
     c.inter_tried.auto.work)
 
 pub inter-returns : goal.inter-returns
 inter-returns t c =
-    inters c.hold_two-n.ensures c.in_ok-each.ensures c.in_ok-t.ensures c.again.ensures c.hold_two-n.auto.work c.each.auto.work
+    inters c.hold_two-n.ensures c.each-f.ensures c.in_ok-t.ensures c.again.ensures c.hold_two-n.auto.work c.each-f.auto.work
     c.inter_tried.auto.work
-
-pub retry-returns-in_err-each : goal.retry-returns-in_err-each
-retry-returns-in_err-each t c =
-    let p = err_from_is_err_and c.from_residual.result c.from_residual.ensures.1 in
-    rw (p.1, p.2) (retries c.hold_two-n.ensures c.turned-pa.ensures c.turned-pb.ensures c.in_err-each.ensures tries_off (retried_refused refl)
-    c.hold_two-n.auto.work c.each.auto.work refl)
 
 pub retry-returns-in_err-t : goal.retry-returns-in_err-t
 retry-returns-in_err-t t c =
-    let p = err_from_is_err_and c.from_residual-in_err-t.result c.from_residual-in_err-t.ensures.1 in
-    rw (p.1, p.2) (retries c.hold_two-n.ensures c.turned-pa.ensures c.turned-pb.ensures c.in_ok-each.ensures c.in_err-t.ensures (retried_refused refl)
-    c.hold_two-n.auto.work c.each.auto.work c.inter_tried.auto.work)
+    let p = err_from_is_err_and c.from_residual.result c.from_residual.ensures.1 in
+    rw (p.1, p.2) (retries c.hold_two-n.ensures c.turned-pa.ensures c.turned-pb.ensures c.each-f.ensures c.in_err-t.ensures (retried_refused refl)
+    c.hold_two-n.auto.work c.each-f.auto.work c.inter_tried.auto.work)
 
 pub retry-returns : goal.retry-returns
 retry-returns t c =
-    retries c.hold_two-n.ensures c.turned-pa.ensures c.turned-pb.ensures c.in_ok-each.ensures c.in_ok-t.ensures c.retried.ensures
-    c.hold_two-n.auto.work c.each.auto.work c.inter_tried.auto.work
+    retries c.hold_two-n.ensures c.turned-pa.ensures c.turned-pb.ensures c.each-f.ensures c.in_ok-t.ensures c.retried.ensures
+    c.hold_two-n.auto.work c.each-f.auto.work c.inter_tried.auto.work
 
 pub rule-returns-in-Variable : goal.rule-returns-in-Variable
 rule-returns-in-Variable t c = search rules_variable
