@@ -119,15 +119,6 @@ remains_is {w' = w'} {u = u} a b g =
           gathered le;
     }
 
-pub remains_refused : {w ms out out' w' : List ℕ} {q : Pass} {n u k j : ℕ} {rest : Members} → Picks not_among w ms n u rest → Soles 5 w q rest w' (RefusedP j)
-    → Remains w q ms n u out k w' out' (RefusedG j)
-remains_refused a b =
-    record {
-      is = λ {st} {xs} {got} on t lt gathered le.
-          let e = on.arena.count in
-          b.is wraps_union on (taken_most (omega arith) (a.is on.arena (taken_most (omega arith) t) (omega arith)));
-    }
-
 -- `remainders` at union i
 abbrev rest : List ℕ → ℕ → Run (List ℕ)
 rest xs u = λ st. sole Union (without xs (members_at st.nodes u)) st

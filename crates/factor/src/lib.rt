@@ -64,8 +64,8 @@ fn remainder(
     ensures { Remains arena.old q.old shared.now.at shared.now.count u out.old k arena.new out.new (grown result q.new) }
 {
     let rest = unshared_members(arena, shared, u);
-    let part = sole(arena, q, OutputTy::Union, rest)?;
-    Ok(grow(out, k, part))
+    let part = sole(arena, q, OutputTy::Union, rest);
+    grow(out, k, part)
 }
 
 // Each union without the shared members.

@@ -1,7 +1,7 @@
 // Lists of members by value, and what the functions on them share.
 ghost use Rattle.std.specs.Prelude.{[], ◌∷◌, Ok};
 ghost use Rattle.lang_ty.specs.declared.arena.Pass.{Pass};
-ghost use Rattle.lang_ty.specs.Given.{Node};
+ghost use Rattle.lang_ty.specs.Given.{given};
 ghost use Rattle.members.specs.AtMostOne.{at_most_one};
 ghost use Rattle.members.specs.Grown.{grown};
 ghost use Rattle.members.specs.Listed.{listed};
@@ -150,15 +150,15 @@ pub fn sole(
     Ok(Some(x))
 }
 
-// What is left of a member put after the first k cells of out; how many there are then.
-pub fn grow(out: &mut [u32], k: u32, p: Option<u32>) -> u32
-    ensures { (q : Pass) → Grows out.old k (at_most_one (Ok p) q) out.new (grown (Ok result) q) }
+// What is left of a member put after the first k cells of out; how many there are then. A refusal is handed on.
+pub fn grow(out: &mut [u32], k: u32, p: Result<Option<u32>, Refusal>) -> Result<u32, Refusal>
+    ensures { (q : Pass) → Grows out.old k (at_most_one p q) out.new (grown result q) }
 {
-    match p {
-        None => k,
+    match p? {
+        None => Ok(k),
         Some(x) => {
             set(out, k, x);
-            add(k, 1)
+            Ok(add(k, 1))
         }
     }
 }
@@ -214,11 +214,12 @@ pub fn of_kind(arena: &[u32], m: Members, kind: OutputTy, wanted: bool) -> Membe
     }
 }
 
-// The members and a node after them.
-pub fn with_last(m: Members, x: u32) -> Members
-    ensures { (q : Pass) → WithLast m (Node x q) (listed (Ok result) q) }
+// The members and a node after them. A refusal is handed on.
+pub fn with_last(m: Members, g: Result<u32, Refusal>) -> Result<Members, Refusal>
+    ensures { (q : Pass) → WithLast m (given g q) (listed result q) }
 {
-    joined(m, one(x))
+    let x = g?;
+    Ok(joined(m, one(x)))
 }
 
 // should_drop_filler: Bottom, Top, or a TyVar of count or more, or one that is not preserved, as the cells of the table from f on tell.

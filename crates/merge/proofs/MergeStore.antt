@@ -24,7 +24,6 @@ use Rattle.laws.proofs.Rows.{field_words_length, dyn_words_length, few_dyns}
 use Rattle.laws.proofs.Storing.{store_keeps}
 use Rattle.lang_ty.specs.declared.arena.Pass.{Pass}
 use Rattle.lang_ty.specs.Given.{Given}
-use Rattle.lang_ty.specs.Given.{Refused as RefusedN}
 use Rattle.lang_ty.specs.Nodes.{highest, Arena, Stands, Interned, Written, Answers as Stores}
 use Rattle.lang_ty.specs.Nodes as nodes
 use Rattle.lang_ty.specs.Sets.{Open}
@@ -360,9 +359,6 @@ attrs_stay ns more (x ∷ xs) u =
     ap₂ (λ (n : rules.Node) (l : List Attr). attr_of (as_attr n) ++ l) (get_or-append ns more Bottom x u.0) (attrs_stay ns more xs u.1)
 
 -- `merged_last`
-node_refused : {n l : Members} {k : ℕ} → WithLast n (RefusedN k) (record { flow = RefusedF k; members = l })
-node_refused = record { is = λ o w {xs} a few lt below. ap (λ (o : Out ℕ). bind o (λ x. give (xs ++ (x ∷ [])))) a.is }
-
 module _ {w held : List ℕ} {h : ℕ} {m n : Members} where
   module _ {w' held' : List ℕ} {g : Merging} {q : Pass} {b : ℕ} {v : Given} {r : Listed} (other : OtherArea h g.area b)
       (call : StoresMerged w held b q g m w' held' v) (last : WithLast n v r) where
@@ -409,10 +405,6 @@ module _ {w held : List ℕ} {h : ℕ} {m n : Members} where
           kept = λ c lt. call.kept c (omega (arith, other.low));
           is = λ before st a taken sets roomy few lt u. last_answers before st a taken sets roomy few lt u;
         }
-
-  pub last_refused : {w' held' : List ℕ} {g : Merging} {q : Pass} {b k : ℕ} {l : Members} → OtherArea h g.area b → StoresMerged w held b q g m w' held' (RefusedN k)
-      → MergedLast w held h (On g q) m n w' held' (record { flow = RefusedF k; members = l })
-  last_refused other call = last_merged other call node_refused
 
 -- the sets among the members
 attr_none : (n : rules.Node) → (kind_of n ≡ 4 → ⊥) → attr_of (as_attr n) ≡ []

@@ -435,8 +435,8 @@ fn merged_last(
     ensures { MergedLast arena.old held.old h (On g q.old) sets.now others arena.new held.new (listed result q.new) }
 {
     let b = other_area(h, g.area);
-    let x = store_merged(arena, held, b, q, g, sets)?;
-    Ok(with_last(others, x))
+    let x = store_merged(arena, held, b, q, g, sets);
+    with_last(others, x)
 }
 
 // merge_attrset_intersection: the sets become one, last; held from h on is free for their fields.

@@ -22,7 +22,7 @@ use Rattle.members.specs.Listed.{Listed}
 use Rattle.members.specs.AtMostOne.{AtMostOne}
 use Rattle.members.specs.Grown.{Grown as GrownBy}
 use Rattle.members.specs.Grown.{On as OnG, Refused as RefusedG}
-use Rattle.members.specs.Lists.{Taken, Makes, Tests, Runs, Soles, MembersOf, Sifts, AnswersFlow, AnswersPart, AnswersGrown, any_of_kind, of_kind, sift, first_of}
+use Rattle.members.specs.Lists.{Taken, Makes, Tests, Runs, Soles, Grows, MembersOf, Sifts, AnswersFlow, AnswersPart, AnswersGrown, any_of_kind, of_kind, sift, first_of}
 use Rattle.simplify.specs.Asked.{Spares, negated, takes}
 use Rattle.simplify.proofs.Asking.{AnyBeside, denied}
 use Rattle.simplify.specs.Intersections.{Simplifies, SimplifiesInto, SimplifiesAll}
@@ -49,6 +49,12 @@ module _ {w : List ℕ} {g : Members} {q : Pass} {x : ℕ} {b : Bool} (union : I
             (sym (ap (simple (negated_inners st.nodes xs) st x) (sym (union.is on.arena lt) ∙ not-false b e)))
             (sole.is wraps_union on (subst (λ (k : ℕ). Taken m rest k) on.arena.count (some.is on.arena t lt)));
       }
+
+-- the same, put after what was gathered
+pub simplified_into : {w w' out out' : List ℕ} {g : Members} {q : Pass} {x k : ℕ} {p : AtMostOne} {r : GrownBy} → Simplifies w q g x w' p → Grows out k p out' r
+    → SimplifiesInto w q g x out k w' out' r
+simplified_into {w' = w'} {x = x} c g =
+    record { is = λ {st} {xs} {got} on t lt a le. g.is (simplify_one (negated_inners st.nodes xs) x st) w' (c.is on t lt) a le }
 
 -- what the negations hold stays the same
 inners_stay : {st st' : State} → Later st st' → (xs : List ℕ) → Under (length st.nodes) xs → negated_inners st'.nodes xs ≡ negated_inners st.nodes xs

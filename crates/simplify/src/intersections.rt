@@ -102,8 +102,8 @@ fn simplify_one(
 ) -> Result<u32, Refusal>
     ensures { SimplifiesInto arena.old q.old negs.now x out.old k arena.new out.new (grown result q.new) }
 {
-    let part = simplified(arena, q, negs, x)?;
-    Ok(grow(out, k, part))
+    let part = simplified(arena, q, negs, x);
+    grow(out, k, part)
 }
 
 // Each of m simplified by those Negs.

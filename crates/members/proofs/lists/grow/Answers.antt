@@ -1,11 +1,9 @@
-use mathlib.Core.Path.{ap}
-use Rattle.std.specs.Prelude.{ℕ, Option, Ok}
+use mathlib.Core.Path.{ap, ◌∙◌}
+use Rattle.std.specs.Prelude.{ℕ, Option, Result, Ok}
+use Rattle.rules.specs.declared.Refusal.{Refusal}
 use Rattle.members.specs.AtMostOne.{at_most_one}
-use Rattle.members.proofs.Gathered.{grow_nothing, grow_one}
+use Rattle.members.proofs.Gathered.{grow_one}
 use Rattle.members.proofs.lists.grow.Goals as goal
 
-pub returns-in-None : goal.returns-in-None
-returns-in-None c q = grow_nothing (ap (λ (v : Option ℕ). at_most_one (Ok v) q) c.in-None.is)
-
 pub returns-in-Some : goal.returns-in-Some
-returns-in-Some c q = grow_one (ap (λ (v : Option ℕ). at_most_one (Ok v) q) c.in-Some.is) c.set.ensures c.add.ensures
+returns-in-Some c q = grow_one (ap (λ (v : Result (Option ℕ) Refusal). at_most_one v q) (c.in_ok-p.was ∙ ap Ok c.in-Some.is)) c.set.ensures c.add.ensures
