@@ -39,8 +39,8 @@ module _ {Answered : ℕ → Bool → Type 0} {w : List ℕ} {m : Members} where
       → AnyBeside f w m g r
   any_beside {f} c says = record { is = λ {q} {ns} {xs} {ys} h t u. c.is (f ns ys) t (λ y b l a. (says y b a).is h u l) }
 
-  pub sifts : {f : List Node → List ℕ → ℕ → Bool} {g r : Members} → SiftsBy Answered m r → ((y : ℕ) (b : Bool) → Answered y b → Beside f w g.at g.count y b)
-      → Sifts f w g.at g.count m r
+  pub sifts : {f : List Node → List ℕ → ℕ → Bool} {ms : List ℕ} {n : ℕ} {r : Members} → SiftsBy Answered m r → ((y : ℕ) (b : Bool) → Answered y b → Beside f w ms n y b)
+      → Sifts f w ms n m r
   sifts {f} c says = record { is = λ {q} {ns} {xs} {ys} h t u. c.is (f ns xs) u (λ y b l a. (says y b a).is h t l) }
 
 pub denies : {f : List Node → List ℕ → ℕ → Bool} {w ms : List ℕ} {n x : ℕ} {b d : Bool} → Beside f w ms n x d → b ≡ not d → Beside (denied f) w ms n x b

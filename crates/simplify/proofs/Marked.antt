@@ -252,7 +252,7 @@ module _ {w : List ℕ} {s : Members} where
   pub absorbing_start : Absorbing w s (replicate most_members 0) 0
   absorbing_start = record { few = omega arith; is = λ h t. record { now = []; marked = marked_none; is = refl } }
 
-  pub absorbing_more : {own gone gone' : List ℕ} {i : ℕ} → MarksOwn w s (replicate most_members 0) own → Absorbing w s gone i → i < s.count → MarksTaken w s i own gone gone'
+  pub absorbing_more : {own gone gone' : List ℕ} {i : ℕ} → MarksOwn w s.at s.count (replicate most_members 0) own → Absorbing w s gone i → i < s.count → MarksTaken w s i own gone gone'
       → Absorbing w s gone' (i + 1)
   absorbing_more {i = i} o c lt g =
       record {

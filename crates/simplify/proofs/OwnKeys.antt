@@ -34,8 +34,7 @@ use Rattle.lang_ty.specs.Nodes.{Arena, Is}
 use Rattle.lang_ty.specs.Shapes.{SetPlace}
 use Rattle.lang_ty.specs.Sets.{SetAt, Fields, Key, Optionals, covers}
 use Rattle.lang_ty.proofs.Shapes.{set_of, set_at_lem, set_orderly}
-use Rattle.members.specs.declared.lists.Members.{Members}
-use Rattle.members.specs.Lists.{Taken}
+use Rattle.members.specs.Lists.{Taken, first_of}
 use Rattle.members.proofs.Gathered.{few_at, few_below}
 use Rattle.simplify.specs.OwnKeys.{keys_of, HasKey, Raised, CountsKeys, CountsMember, Tallied, CountsMembers, Owns, OwnKey, MarksIfOwn, Idle, MarksOwn}
 use Rattle.simplify.proofs.Absorbed.{no_attr}
@@ -137,8 +136,8 @@ module _ {w : List ℕ} {x : ℕ} {b : Bool} (k : Is w 4 x b) where
       }
 
 -- `count_members` at member i
-pub record Tallying (w : List ℕ) (s : Members) (counts₀ counts : List ℕ) (i : ℕ) : Type 0 where
-  pub is : {q : Pass} {ns : List Node} {xs : List ℕ} → Arena w q ns → Taken s xs (length ns) → most_names ≤ length counts₀ → Tallied ns xs i counts
+pub record Tallying (w ms : List ℕ) (n : ℕ) (counts₀ counts : List ℕ) (i : ℕ) : Type 0 where
+  pub is : {q : Pass} {ns : List Node} {xs : List ℕ} → Arena w q ns → Taken (first_of n ms) xs (length ns) → most_names ≤ length counts₀ → Tallied ns xs i counts
 
 tallied_more : {ns : List Node} {xs counts counts' : List ℕ} {i : ℕ} → Tallied ns xs i counts → Raised (keys_of (as_attr (node_at ns (get_or xs i 0)))) counts counts'
     → Tallied ns xs (i + 1) counts'
@@ -149,12 +148,12 @@ tallied_more {ns} {xs} {counts} {counts'} {i} t r =
           (λ l less k has had. r.rises k 1 had (omega arith) (t.one l less k has));
     }
 
-module _ {w : List ℕ} {s : Members} {counts₀ : List ℕ} where
-  pub tallying_start : Tallying w s counts₀ counts₀ 0
+module _ {w ms : List ℕ} {n : ℕ} {counts₀ : List ℕ} where
+  pub tallying_start : Tallying w ms n counts₀ counts₀ 0
   tallying_start = record { is = λ h t room. record { one = λ i lt. absurd (omega arith); two = λ j lt. absurd (omega arith) } }
 
-  pub tallying_more : {counts counts' : List ℕ} {i x : ℕ} → Tallying w s counts₀ counts i → length counts ≡ length counts₀ → i < s.count → x ≡ cell s.at i → CountsMember w x counts counts'
-      → Tallying w s counts₀ counts' (i + 1)
+  pub tallying_more : {counts counts' : List ℕ} {i x : ℕ} → Tallying w ms n counts₀ counts i → length counts ≡ length counts₀ → i < n → x ≡ cell ms i → CountsMember w x counts counts'
+      → Tallying w ms n counts₀ counts' (i + 1)
   tallying_more {counts} {counts'} {i} {x} c same lt e g =
       record {
         is = λ {q} {ns} {xs} h t room.
@@ -162,7 +161,7 @@ module _ {w : List ℕ} {s : Members} {counts₀ : List ℕ} where
             (subst (λ (y : ℕ). Raised (keys_of (as_attr (node_at ns y))) counts counts') (few_at t.list e lt) (g.is h (few_below t e lt) (omega arith)));
       }
 
-  pub tallying_done : {counts : List ℕ} {i : ℕ} → Tallying w s counts₀ counts i → s.count ≤ i → CountsMembers w s counts₀ counts
+  pub tallying_done : {counts : List ℕ} {i : ℕ} → Tallying w ms n counts₀ counts i → n ≤ i → CountsMembers w ms n counts₀ counts
   tallying_done c le =
       record {
         is = λ h t room.
@@ -268,12 +267,12 @@ pub idle_none : {ns : List Node} {xs : List ℕ} → length xs ≤ most_members 
 idle_none few = record { is = λ i lt m. absurd (m (get_or-replicate most_members i 0 0 (omega arith))) }
 
 -- `mark_own`: a short list, and what one more member adds
-module _ {w : List ℕ} {s : Members} {own₀ : List ℕ} where
-  pub owning_none : MarksOwn w s own₀ own₀
+module _ {w ms : List ℕ} {n : ℕ} {own₀ : List ℕ} where
+  pub owning_none : MarksOwn w ms n own₀ own₀
   owning_none = record { is = λ h t o. o }
 
-  pub owning_more : {counts own own' : List ℕ} {i x : ℕ} → CountsMembers w s (replicate most_names 0) counts → MarksOwn w s own₀ own → i < s.count → x ≡ cell s.at i
-      → MarksIfOwn w counts x i own own' → MarksOwn w s own₀ own'
+  pub owning_more : {counts own own' : List ℕ} {i x : ℕ} → CountsMembers w ms n (replicate most_names 0) counts → MarksOwn w ms n own₀ own → i < n → x ≡ cell ms i
+      → MarksIfOwn w counts x i own own' → MarksOwn w ms n own₀ own'
   owning_more {counts} {own} {own'} {i} {x} a c lt e g =
       record {
         is = λ {q} {ns} {xs} h t o.

@@ -32,7 +32,7 @@ use Rattle.simplify.proofs.Cancelled.{inners_kept}
 use Rattle.cells.specs.Placed.{Under}
 
 -- `spared`
-pub spares_is : {w : List ℕ} {x : ℕ} {g m r : Members} → MembersOf w x m → Sifts (denied negated) w g.at g.count m r → Spares w g x r
+pub spares_is : {w ms : List ℕ} {n x : ℕ} {m r : Members} → MembersOf w x m → Sifts (denied negated) w ms n m r → Spares w ms n x r
 spares_is a g = record { is = λ h t lt. g.is h t (a.is h lt) }
 
 -- `simplified`
@@ -40,7 +40,7 @@ abbrev simple : List ℕ → State → ℕ → Bool → Out (List ℕ)
 simple negs st x b = (if b (λ _. sole Union (spared st.nodes negs x)) (λ _. give (x ∷ []))) st
 
 module _ {w : List ℕ} {g : Members} {q : Pass} {x : ℕ} {b : Bool} (union : Is w 5 x b) where
-  pub simplified_sole : {m : Members} {w' : List ℕ} {r : AtMostOne} → not b ≡ false → Spares w g x m → Soles 5 w q m w' r → Simplifies w q g x w' r
+  pub simplified_sole : {m : Members} {w' : List ℕ} {r : AtMostOne} → not b ≡ false → Spares w g.at g.count x m → Soles 5 w q m w' r → Simplifies w q g x w' r
   simplified_sole {m} {w'} {r} e some sole =
       record {
         is = λ {st} {xs} on t lt.

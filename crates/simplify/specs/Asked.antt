@@ -6,7 +6,7 @@ use Rattle.rules.specs.Members.{inner_of, negated_inners, is_positive, is_concre
 use Rattle.lang_ty.specs.declared.arena.Pass.{Pass}
 use Rattle.lang_ty.specs.Nodes.{Arena}
 use Rattle.members.specs.declared.lists.Members.{Members}
-use Rattle.members.specs.Lists.{Taken}
+use Rattle.members.specs.Lists.{first_of, Taken}
 
 -- y has a known constructor and is not disjoint from x
 abbrev pub overlap : ℕ → List Node → ℕ → ℕ → Bool
@@ -32,8 +32,8 @@ abbrev pub negated : List Node → List ℕ → ℕ → Bool
 negated ns xs x = any (is_output_subtype_or_equal ns x) (negated_inners ns xs)
 
 -- what the negations among the members spare of node x
-pub record Spares (w : List ℕ) (m : Members) (x : ℕ) (r : Members) : Type 0 where
-  pub is : {q : Pass} {ns : List Node} {xs : List ℕ} → Arena w q ns → Taken m xs (length ns) → x < length ns
+pub record Spares (w ms : List ℕ) (n x : ℕ) (r : Members) : Type 0 where
+  pub is : {q : Pass} {ns : List Node} {xs : List ℕ} → Arena w q ns → Taken (first_of n ms) xs (length ns) → x < length ns
       → Taken r (spared ns (negated_inners ns xs) x) (length ns)
 
 -- x is positive, and negated

@@ -11,8 +11,7 @@ use Rattle.laws.specs.Sound.{Orderly}
 use Rattle.lang_ty.specs.declared.arena.Pass.{Pass}
 use Rattle.lang_ty.specs.Nodes.{Arena}
 use Rattle.lang_ty.specs.Sets.{SetAt}
-use Rattle.members.specs.declared.lists.Members.{Members}
-use Rattle.members.specs.Lists.{Taken}
+use Rattle.members.specs.Lists.{Taken, first_of}
 
 -- the keys of a set, none of what is no set
 abbrev pub keys_of : Option Attr → List ℕ
@@ -39,8 +38,8 @@ pub record Tallied (ns : List Node) (xs : List ℕ) (n : ℕ) (counts : List ℕ
   pub one : (i : ℕ) → i < n → (k : ℕ) → HasKey ns (get_or xs i 0) k → 1 ≤ cell counts k
   pub two : (j : ℕ) → j < n → (i : ℕ) → i < j → (k : ℕ) → HasKey ns (get_or xs i 0) k → HasKey ns (get_or xs j 0) k → 2 ≤ cell counts k
 
-pub record CountsMembers (w : List ℕ) (m : Members) (counts counts' : List ℕ) : Type 0 where
-  pub is : {q : Pass} {ns : List Node} {xs : List ℕ} → Arena w q ns → Taken m xs (length ns) → most_names ≤ length counts → Tallied ns xs m.count counts'
+pub record CountsMembers (w ms : List ℕ) (n : ℕ) (counts counts' : List ℕ) : Type 0 where
+  pub is : {q : Pass} {ns : List Node} {xs : List ℕ} → Arena w q ns → Taken (first_of n ms) xs (length ns) → most_names ≤ length counts → Tallied ns xs n counts'
 
 -- a requires all its keys if it is a set, and one of them was counted once
 pub record Owns (counts : List ℕ) (a : Option Attr) : Type 0 where
@@ -62,5 +61,5 @@ pub record Idle (ns : List Node) (xs own : List ℕ) : Type 0 where
   pub is : (i : ℕ) → i < length xs → (cell own i ≡ 0 → ⊥) → {t : Attr} → as_attr (node_at ns (get_or xs i 0)) ≡ some t → (j : ℕ) → j < length xs → (i ≡ j → ⊥)
       → subsumes_node t (as_attr (node_at ns (get_or xs j 0))) ≡ false
 
-pub record MarksOwn (w : List ℕ) (m : Members) (own own' : List ℕ) : Type 0 where
-  pub is : {q : Pass} {ns : List Node} {xs : List ℕ} → Arena w q ns → Taken m xs (length ns) → Idle ns xs own → Idle ns xs own'
+pub record MarksOwn (w ms : List ℕ) (n : ℕ) (own own' : List ℕ) : Type 0 where
+  pub is : {q : Pass} {ns : List Node} {xs : List ℕ} → Arena w q ns → Taken (first_of n ms) xs (length ns) → Idle ns xs own → Idle ns xs own'

@@ -87,7 +87,7 @@ fn simplified(
     if !arena::is(arena, OutputTy::Union, x) {
         return Ok(Some(x));
     }
-    let m = spared(arena, negs, x);
+    let m = spared(arena, &negs.at, negs.count, x);
     sole(arena, q, OutputTy::Union, m)
 }
 

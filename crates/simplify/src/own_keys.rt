@@ -4,7 +4,6 @@ ghost use Rattle.simplify.specs.OwnKeys.{CountsKeys, CountsMember, CountsMembers
 use cells::{add, at, set};
 use lang_ty::arena::OutputTy;
 use lang_ty::{arena, attrset, disjoint};
-use members::lists::Members;
 
 // One more in counts for each key of the set at a.
 fn count_keys(words: &[u32], a: u32, counts: &mut [u32])
@@ -28,12 +27,12 @@ fn count_member(arena: &[u32], x: u32, counts: &mut [u32])
     count_keys(arena, disjoint::set_place(arena, x), counts);
 }
 
-// How many of the members are sets with a key, for each key.
-fn count_members(arena: &[u32], m: &Members, counts: &mut [u32])
-    ensures { CountsMembers arena.now m.now counts.old counts.new }
+// How many of the first n cells of s are sets with a key, for each key.
+fn count_members(arena: &[u32], s: &[u32], n: u32, counts: &mut [u32])
+    ensures { CountsMembers arena.now s.now n counts.old counts.new }
 {
-    for i in 0..m.count {
-        count_member(arena, at(&m.at, i), counts);
+    for i in 0..n {
+        count_member(arena, at(s, i), counts);
     }
 }
 
@@ -59,15 +58,15 @@ fn mark_if_own(arena: &[u32], counts: &[u32], x: u32, i: u32, own: &mut [u32])
 }
 
 // Marks in own the places of sets that have a key of their own. In a short list none is looked for: the counts alone are 4 KB to clear.
-pub fn mark_own(arena: &[u32], m: &Members, own: &mut [u32])
-    ensures { MarksOwn arena.now m.now own.old own.new }
+pub fn mark_own(arena: &[u32], s: &[u32], n: u32, own: &mut [u32])
+    ensures { MarksOwn arena.now s.now n own.old own.new }
 {
-    if m.count < 16 {
+    if n < 16 {
         return;
     }
     let mut counts = [0u32; 1024];
-    count_members(arena, m, &mut counts);
-    for i in 0..m.count {
-        mark_if_own(arena, &counts, at(&m.at, i), i, own);
+    count_members(arena, s, n, &mut counts);
+    for i in 0..n {
+        mark_if_own(arena, &counts, at(s, i), i, own);
     }
 }

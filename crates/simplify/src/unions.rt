@@ -105,7 +105,7 @@ pub fn absorb_subsumed_union_members(arena: &[u32], m: Members) -> Members
     ensures { Makes absorb_subsumed_union_members arena.now m result }
 {
     let mut own = [0u32; 128];
-    mark_own(arena, &m, &mut own);
+    mark_own(arena, &m.at, m.count, &mut own);
     let mut gone = [0u32; 128];
     for i in 0..m.count {
         mark_taken(arena, &m, i, &own, &mut gone);

@@ -5,4 +5,4 @@ use lib.ListN.{length}
 use Rattle.simplify.proofs.own_keys.count_members.Given as goal
 
 abbrev pub invariant-loop-i : goal.invariant-loop-i
-invariant-loop-i l = Tallying l.arena l.m l.initial.counts l.counts l.i × (length l.counts ≡ length l.initial.counts)
+invariant-loop-i l = Tallying l.arena l.s l.n l.initial.counts l.counts l.i × (length l.counts ≡ length l.initial.counts)

@@ -2,8 +2,8 @@ use Rattle.simplify.proofs.OwnKeys.{owning_none, owning_more}
 use borrow.Author.Rules.{rules}
 use Rattle.simplify.proofs.own_keys.mark_own.Goals as goal
 
-pub returns-then-m-lt16 : goal.returns-then-m-lt16
-returns-then-m-lt16 c = owning_none
+pub returns-then-n-lt16 : goal.returns-then-n-lt16
+returns-then-n-lt16 c = owning_none
 
 pub loop-i-init : goal.loop-i-init
 loop-i-init c = (owning_none, search rules)

@@ -5,4 +5,4 @@ use lib.ListN.{length}
 use Rattle.simplify.proofs.own_keys.mark_own.Given as goal
 
 abbrev pub invariant-loop-i : goal.invariant-loop-i
-invariant-loop-i l = MarksOwn l.arena l.m l.initial.own l.own × (length l.own ≡ length l.initial.own)
+invariant-loop-i l = MarksOwn l.arena l.s l.n l.initial.own l.own × (length l.own ≡ length l.initial.own)
