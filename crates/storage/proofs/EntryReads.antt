@@ -155,10 +155,10 @@ module _ (count : ℕ) (t : Reader) (l u : List ℕ) where
   named_rest None g h = λ hit miss. named_append t hit miss l u ∙ g hit (named_bound t hit miss u) ∙ h hit miss
 
 module _ {table : List ℕ} {c : Canon} {v : ℕ} {f : Option ℕ} (a : FindsNamed table c v f) where
-  named_lower : {b : ℕ} → f ≡ Some b → NamedBound table c v f
+  pub named_lower : {b : ℕ} → f ≡ Some b → NamedBound table c v f
   named_lower {b} e = record { is = λ {t} {l} {u} h at ul uu. named_first c.count t l u f b e (a.is h at.lowers ul) }
 
-  named_upper : {s : ℕ} {r : Option ℕ} → f ≡ None → Uppers table v s → FindsNamed table c s r → NamedBound table c v r
+  pub named_upper : {s : ℕ} {r : Option ℕ} → f ≡ None → Uppers table v s → FindsNamed table c s r → NamedBound table c v r
   named_upper {s} {r} e up g =
       record {
         is = λ {t} {l} {u} h at ul uu.
