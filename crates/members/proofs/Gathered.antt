@@ -493,15 +493,15 @@ module _ {w : List ℕ} {x k : ℕ} (a : Kind w x k) where
 
   -- fillers by their kind
   module _ {table : List ℕ} {f count : ℕ} where
-    drops_bottom : k ≡ 9 → Drops table f count w x true
+    pub drops_bottom : k ≡ 9 → Drops table f count w x true
     drops_bottom e =
         record { is = λ {p} pre. record { is = λ {q} {ns} h lt. sym (by_kind (node_at ns x) (λ (m : Node). drops_node p m ≡ true) 9 (sym (a.is h lt) ∙ e) refl) } }
 
-    drops_top : k ≡ 10 → Drops table f count w x true
+    pub drops_top : k ≡ 10 → Drops table f count w x true
     drops_top e =
         record { is = λ {p} pre. record { is = λ {q} {ns} h lt. sym (by_kind (node_at ns x) (λ (m : Node). drops_node p m ≡ true) 10 (sym (a.is h lt) ∙ e) refl) } }
 
-    drops_other : (k ≡ 9 → ⊥) → (k ≡ 10 → ⊥) → (k ≡ 0 → ⊥) → Drops table f count w x false
+    pub drops_other : (k ≡ 9 → ⊥) → (k ≡ 10 → ⊥) → (k ≡ 0 → ⊥) → Drops table f count w x false
     drops_other e g z =
         record {
           is = λ {p} pre.

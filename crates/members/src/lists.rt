@@ -1,5 +1,6 @@
 // Lists of members by value, and what the functions on them share.
-ghost use Rattle.std.specs.Prelude.{[], ◌∷◌, Ok};
+ghost use Rattle.std.specs.Prelude.{[], ◌∷◌, ◌≡◌, Ok};
+ghost use Rattle.std.specs.Result.{is_ok};
 ghost use Rattle.lang_ty.specs.declared.arena.Pass.{Pass};
 ghost use Rattle.lang_ty.specs.Given.{given};
 ghost use Rattle.members.specs.AtMostOne.{at_most_one};
@@ -152,7 +153,8 @@ pub fn sole(
 
 // What is left of a member put after the first k cells of out; how many there are then. A refusal is handed on.
 pub fn grow(out: &mut [u32], k: u32, p: Result<Option<u32>, Refusal>) -> Result<u32, Refusal>
-    ensures { (q : Pass) → Grows out.old k (at_most_one p q) out.new (grown result q) }
+    ensures grows { (q : Pass) → Grows out.old k (at_most_one p q) out.new (grown result q) }
+    ensures answered { is_ok result ≡ is_ok p }
 {
     match p? {
         None => Ok(k),
@@ -216,7 +218,8 @@ pub fn of_kind(arena: &[u32], m: Members, kind: OutputTy, wanted: bool) -> Membe
 
 // The members and a node after them. A refusal is handed on.
 pub fn with_last(m: Members, g: Result<u32, Refusal>) -> Result<Members, Refusal>
-    ensures { (q : Pass) → WithLast m (given g q) (listed result q) }
+    ensures adds { (q : Pass) → WithLast m (given g q) (listed result q) }
+    ensures answered { is_ok result ≡ is_ok g }
 {
     let x = g?;
     Ok(joined(m, one(x)))

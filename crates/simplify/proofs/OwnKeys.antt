@@ -173,7 +173,7 @@ module _ {w ms : List ℕ} {n : ℕ} {counts₀ : List ℕ} where
 some_same : {t u : Attr} → some t ≡ some u → t ≡ u
 some_same e = cc
 
-own_yes : {w counts : List ℕ} {x a o n i k v : ℕ} {b : Bool} → Is w 4 x b → not b ≡ false → SetPlace w x a → Optionals w a o → o ≡ 0 → Fields w a n → i < n → Key w a i k
+pub own_yes : {w counts : List ℕ} {x a o n i k v : ℕ} {b : Bool} → Is w 4 x b → not b ≡ false → SetPlace w x a → Optionals w a o → o ≡ 0 → Fields w a n → i < n → Key w a i k
     → v ≡ cell counts k → v ≡ 1 → OwnKey w counts x true
 own_yes {counts = counts} {x = x} {i = i} {k = k} {b = b} l c p s e f lt key g one =
     record {

@@ -3,4 +3,4 @@ use Rattle.factor.proofs.Factors.{remains_is}
 use Rattle.factor.proofs.remainder.Goals as goal
 
 pub returns : goal.returns
-returns c = remains_is c.unshared_members-rest.ensures c.sole-part.ensures (c.grow.ensures c.sole-part.new.q)
+returns c = remains_is c.unshared_members-rest.ensures c.sole-part.ensures (c.grow.ensures.grows c.sole-part.new.q)

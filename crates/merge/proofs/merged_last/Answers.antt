@@ -3,4 +3,4 @@ use Rattle.merge.proofs.MergeStore.{last_merged}
 use Rattle.merge.proofs.merged_last.Goals as goal
 
 pub returns : goal.returns
-returns c = last_merged c.other_area-b.ensures c.store_merged-x.ensures (c.with_last.ensures c.store_merged-x.new.q)
+returns c = last_merged c.other_area-b.ensures c.store_merged-x.ensures (c.with_last.ensures.adds c.store_merged-x.new.q)

@@ -5,5 +5,5 @@ use Rattle.lang_ty.specs.Given.{given}
 use Rattle.members.proofs.Gathered.{last_node}
 use Rattle.members.proofs.lists.with_last.Goals as goal
 
-pub returns : goal.returns
-returns c q = last_node (ap (λ (v : Result ℕ Refusal). given v q) c.in_ok-x.was) c.one.ensures c.joined.ensures
+pub returns-clause-adds : goal.returns-clause-adds
+returns-clause-adds c q = last_node (ap (λ (v : Result ℕ Refusal). given v q) c.in_ok-x.was) c.one.ensures c.joined.ensures
