@@ -99,19 +99,25 @@ called s d t a w z = record {
 }
 
 -- outcome, output and scratch are the same
-abbrev pub Same : List ℕ → List ℕ → List ℕ → List ℕ → List ℕ → Outcome ℕ Fault → List ℕ → List ℕ → List ℕ → List ℕ → List ℕ → Outcome ℕ Fault → Type 0
+abbrev pub Same : {R : Type 0} → List ℕ → List ℕ → List ℕ → List ℕ → List ℕ → R → List ℕ → List ℕ → List ℕ → List ℕ → List ℕ → R → Type 0
 Same o d t a w r o' d' t' a' w' r' = (r ≡ r') × (o ≡ o') × (d ≡ d') × (t ≡ t') × (a ≡ a') × (w ≡ w')
 
--- a call that keeps this promise has one outcome, one output and one scratch after it
-pub called_unique : {draft table arena work o d t a w o' d' t' a' w' : List ℕ} {r r' : Outcome ℕ Fault} {l : Left}
-    → Called l draft table arena work o d t a w (outcome_of r) → Called l draft table arena work o' d' t' a' w' (outcome_of r')
-    → Same o d t a w r o' d' t' a' w' r'
-called_unique {r = r} {r' = r'} x y =
-    let p = x.wiped in let q = y.wiped in (
-      outcome_one r r' (x.says.outcome ∙ sym y.says.outcome),
-      x.says.output ∙ sym y.says.output,
-      p.draft_zero.is ∙ sym q.draft_zero.is,
-      p.table_zero.is ∙ sym q.table_zero.is,
-      p.arena_zero.is ∙ sym q.arena_zero.is,
-      p.work_zero.is ∙ sym q.work_zero.is,
-    )
+module _ {draft table arena work o d t a w o' d' t' a' w' : List ℕ} {l : Left} where
+  -- a call that keeps this promise has one outcome, of all that the rules can give, one output and one scratch after it
+  pub called_unique : {r r' : Result ℕ} → Called l draft table arena work o d t a w r → Called l draft table arena work o' d' t' a' w' r'
+      → Same o d t a w r o' d' t' a' w' r'
+  called_unique x y =
+      let p = x.wiped in let q = y.wiped in (
+        x.says.outcome ∙ sym y.says.outcome,
+        x.says.output ∙ sym y.says.output,
+        p.draft_zero.is ∙ sym q.draft_zero.is,
+        p.table_zero.is ∙ sym q.table_zero.is,
+        p.arena_zero.is ∙ sym q.arena_zero.is,
+        p.work_zero.is ∙ sym q.work_zero.is,
+      )
+
+  -- and so the code has one answer
+  pub called_answer : {r r' : Outcome ℕ Fault} → Called l draft table arena work o d t a w (outcome_of r)
+      → Called l draft table arena work o' d' t' a' w' (outcome_of r') → Same o d t a w r o' d' t' a' w' r'
+  called_answer {r = r} {r' = r'} x y =
+      let p = called_unique x y in (outcome_one r r' p.0, p.1, p.2, p.3, p.4, p.5)
