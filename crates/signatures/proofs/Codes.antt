@@ -11,13 +11,12 @@ use Rattle.cells.specs.Part.{if}
 use Rattle.rules.specs.Table.{Result, accepted, refused}
 use Rattle.rules.specs.Calls.{Left}
 use Rattle.std.specs.Prelude.{Result as Outcome, Ok, Err}
-use Rattle.rules.specs.Refusals.{number}
-use Rattle.rules.specs.declared.Fault.{Fault}
-use Rattle.outcomes.specs.Outcomes.{outcome_of, Says}
+use Rattle.outcomes.specs.Outcomes.{Says}
 use Rattle.rules.specs.declared.Form.{Form}
 use Rattle.canon_call.specs.Called.{Canon, CanonRoot}
 use Rattle.recheck_call.specs.Rechecked.{Rechecked}
-use Rattle.signatures.specs.Exports.{upper, code_of, told_by, Numbered, Code, Exported}
+use Rattle.signatures.specs.declared.Refused.{Refused}
+use Rattle.signatures.specs.Exports.{upper, code_of, told_by, outcome_by, Numbered, Code, Exported}
 use Rattle.signatures.proofs.Numbers.{NotZero, canon_not, canon_root_not, recheck_not}
 
 -- a number is that of the outcome that it tells
@@ -27,6 +26,10 @@ told_by_lem c false = div-add-mod' c upper
 
 pub told_code : (c : ℕ) → code_of (told_by c) ≡ c
 told_code c = told_by_lem c (ltb c upper)
+
+-- two numbers that tell one outcome are the same
+pub told_one : (c d : ℕ) → told_by c ≡ told_by d → c ≡ d
+told_one c d e = sym (told_code c) ∙ ap code_of e ∙ told_code d
 
 -- an outcome of numbers of 32 bits, with no refusal by 0, is told by its number
 pub code_told : (r : Result ℕ) → Numbered r → NotZero r → told_by (code_of r) ≡ r
@@ -64,10 +67,9 @@ pub recheck_exported : (form : Form) (oldText newText listing out : List ℕ) {d
 recheck_exported form oldText newText listing out p k = exported p (said_not p.called.says (recheck_not form oldText newText listing out _)) k
 
 -- each way out of `code`
-module _ {r : Outcome ℕ Fault} where
-  pub code_written : {n : ℕ} → r ≡ Ok n → n ≤ 4294967295 → Code (outcome_of r) n
+module _ {r : Outcome ℕ Refused} where
+  pub code_written : {n : ℕ} → r ≡ Ok n → n ≤ 4294967295 → Code (outcome_by r) n
   code_written e h = rw e (record { is = refl; numbered = h })
 
-  pub code_refused : {f : Fault} {k c : ℕ} → r ≡ Err f → k ≡ number f.refusal → k ≤ 4294967295 → f.line ≤ 4294967295 → c ≡ k * 4294967296 + f.line
-      → Code (outcome_of r) c
-  code_refused e n h i f = rw (e, ← n) (record { is = f; numbered = (h, i) })
+  pub code_refused : {f : Refused} {c : ℕ} → r ≡ Err f → f.number ≤ 4294967295 → f.line ≤ 4294967295 → c ≡ f.number * 4294967296 + f.line → Code (outcome_by r) c
+  code_refused e h i f = rw e (record { is = f; numbered = (h, i) })

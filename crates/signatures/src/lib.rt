@@ -2,24 +2,50 @@
 // `signatures_c` exports them to a Rust or C host.
 #![tactic(auto)]
 
+ghost use Rattle.std.specs.Prelude.{◌≡◌};
 ghost use Rattle.rules.specs.declared.Form.TheVariants.{Plain, Numbered};
 ghost use Rattle.canon_call.specs.Called.{Canon, CanonRoot};
 ghost use Rattle.recheck_call.specs.Rechecked.{Rechecked};
 ghost use Rattle.outcomes.specs.Outcomes.{outcome_of};
-ghost use Rattle.signatures.specs.Exports.{Code, Exported};
+ghost use Rattle.signatures.specs.Exports.{refused_by, outcome_by, Code, Exported};
 
 use canon_call::{canon, canon_numbered, canon_root};
 use recheck_call::{recheck, recheck_numbered};
 use rules::Fault;
 
+// A refusal as the C interface has it, by any number.
+#[derive(Clone, Copy)]
+pub struct Refused {
+    pub number: u32,
+    pub line: u32,
+}
+
+impl From<Fault> for Refused {
+    ghost from_gives = { λ f r. r ≡ refused_by f };
+
+    fn from(f: Fault) -> Self {
+        Refused {
+            number: f.refusal.number(),
+            line: f.line,
+        }
+    }
+}
+
 // An outcome as one number, for the C interface: a refusal's number and line, or 0 and the length written. It tells no other outcome of a call.
-pub fn code(outcome: Result<u32, Fault>) -> u64
-    ensures { Code (outcome_of outcome) result }
+pub fn code(outcome: Result<u32, Refused>) -> u64
+    ensures { Code (outcome_by outcome) result }
 {
     match outcome {
         Ok(n) => n as u64,
-        Err(f) => f.refusal.number() as u64 * 4294967296 + f.line as u64,
+        Err(r) => r.number as u64 * 4294967296 + r.line as u64,
     }
+}
+
+// The same of what a call comes to.
+fn answer(outcome: Result<u32, Fault>) -> u64
+    ensures { Code (outcome_of outcome) result }
+{
+    code(outcome.map_err(Refused::from))
 }
 
 pub fn pekonusit_canon(
@@ -33,7 +59,7 @@ pub fn pekonusit_canon(
     ensures { Exported (Canon Plain text.now out.old draft.old table.old arena.old work.old
         out.new draft.new table.new arena.new work.new) result }
 {
-    code(canon(text, out, draft, table, arena, work))
+    answer(canon(text, out, draft, table, arena, work))
 }
 
 pub fn pekonusit_canon_numbered(
@@ -47,7 +73,7 @@ pub fn pekonusit_canon_numbered(
     ensures { Exported (Canon Numbered text.now out.old draft.old table.old arena.old work.old
         out.new draft.new table.new arena.new work.new) result }
 {
-    code(canon_numbered(text, out, draft, table, arena, work))
+    answer(canon_numbered(text, out, draft, table, arena, work))
 }
 
 pub fn pekonusit_canon_root(
@@ -63,7 +89,7 @@ pub fn pekonusit_canon_root(
     ensures { Exported (CanonRoot text.now id sign out.old draft.old table.old arena.old work.old
         out.new draft.new table.new arena.new work.new) result }
 {
-    code(canon_root(text, id, sign, out, draft, table, arena, work))
+    answer(canon_root(text, id, sign, out, draft, table, arena, work))
 }
 
 pub fn pekonusit_recheck(
@@ -81,7 +107,7 @@ pub fn pekonusit_recheck(
         draft.old old.old table.old arena.old work.old
         out.new draft.new old.new table.new arena.new work.new) result }
 {
-    code(recheck(
+    answer(recheck(
         old_text, new_text, listing, out, draft, old, table, arena, work,
     ))
 }
@@ -101,7 +127,7 @@ pub fn pekonusit_recheck_numbered(
         draft.old old.old table.old arena.old work.old
         out.new draft.new old.new table.new arena.new work.new) result }
 {
-    code(recheck_numbered(
+    answer(recheck_numbered(
         old_text, new_text, listing, out, draft, old, table, arena, work,
     ))
 }

@@ -7,4 +7,4 @@ pub returns-in-Ok : goal.returns-in-Ok
 returns-in-Ok c = code_written c.in-Ok.is (omega arith)
 
 pub returns-in-Err : goal.returns-in-Err
-returns-in-Err c = code_refused c.in-Err.is c.number.ensures (omega arith) (omega arith) refl
+returns-in-Err c = code_refused c.in-Err.is (omega arith) (omega arith) refl
