@@ -5,9 +5,9 @@ use rules::Form;
 use std::io;
 
 fn main(rt: HostRuntime) -> io::Result<()> {
-    let mut text = [0u8; programs::TEXT];
+    let mut text = programs::text_room();
     let n = programs::read_room(&rt, &mut text)?;
-    let mut out = [0u8; programs::OUT];
+    let mut out = programs::out_room();
     let size = canon_call::program::answer_canon(Form::Plain, &text[..n], &mut out);
     programs::show(&rt, &out, size as usize)
 }

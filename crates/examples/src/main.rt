@@ -79,7 +79,7 @@ fn run(head: &[u8], given: &[u8], out: &mut [u8]) -> u32 {
 fn holds(rt: &impl Print, number: u64, s: &[u8], a: usize, r: Record) -> io::Result<bool>
     requires { Ahead a (length s.now) r }
 {
-    let mut out = [0u8; programs::OUT];
+    let mut out = programs::out_room();
     let size = run(&s[a..r.from], &s[r.from..r.mid], &mut out) as usize;
     if out.get(..size) == Some(&s[r.start..r.end]) {
         return Ok(true);

@@ -18,6 +18,7 @@ use Rattle.rules.specs.Listing.{listing_text, old_listing}
 use Rattle.rules.specs.declared.Form.{Form}
 use Rattle.rules.specs.Calls.{fits, canon, comparable, recheck_text, recheck, Split, split_next, printed, lent, canon_program, recheck_parts, recheck_program}
 use Rattle.programs.specs.Parts.{next_line}
+use Rattle.programs.specs.Rooms.{CanonReads, RecheckReads}
 use Rattle.programs.proofs.Cutting.{drop_take, scan, split_scan}
 
 -- a text that is too long is refused before anything in it is looked at
@@ -46,6 +47,9 @@ unfolding canon_program canon
 canon_enough form input =
     ap (λ (r : Result Table). printed (then r (λ (t : Table). fits lent (listing_text form t))))
     (by_length table_of (refused 2 0) long_table 65537 (omega arith) input)
+
+pub canon_reads : {n : ℕ} → 65537 ≡ n → CanonReads n
+canon_reads e = subst CanonReads e (record { is = canon_enough })
 
 -- a text cut, and its first bytes cut: nothing is missing, what is after the cut is cut short, or both have a front that is as long as all that was kept
 data Alike (most : ℕ) (x y : Split) : Type 0 where
@@ -148,3 +152,6 @@ parts_enough form k x y h (kept m f b e) = by_case (ltb most_text (length x.fron
 pub recheck_enough : (form : Form) (input : List ℕ) → recheck_program form (take 196619 input) ≡ recheck_program form input
 unfolding recheck_program
 recheck_enough form input = ap printed (parts_enough form 196619 (split_next input) (split_next (take 196619 input)) (omega arith) (split_alike 196619 input))
+
+pub recheck_reads : {n : ℕ} → 196619 ≡ n → RecheckReads n
+recheck_reads e = subst RecheckReads e (record { is = recheck_enough })

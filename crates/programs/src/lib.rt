@@ -1,8 +1,10 @@
-// What the programs share beside the calls: how much they lend, what is shown of an outcome, the parts of an input, and what is read and written.
+// What the programs share beside the calls: what they lend, what is shown of an outcome, the parts of an input, and what is read and written.
 #![tactic(auto)]
 
 ghost use Rattle.std.specs.Prelude.{◌≡◌, ◌≤◌, length, IfOk};
+ghost use Rattle.rules.specs.Calls.{lent};
 ghost use Rattle.outcomes.specs.Outcomes.{outcome_of};
+ghost use Rattle.programs.specs.Rooms.{CanonReads, RecheckReads};
 ghost use Rattle.programs.specs.Shows.{ShowsOutcome};
 ghost use Rattle.programs.specs.Parts.{IsNext, Behind, UntilNext};
 
@@ -20,6 +22,27 @@ pub const PARTS: usize = 196619;
 
 // As many bytes as a text may have: what a program lends a call for its output.
 pub const OUT: usize = 65536;
+
+pub fn text_room() -> [u8; TEXT]
+    ensures size { 65537 ≡ length result }
+    ensures enough { CanonReads (length result) }
+{
+    [0u8; TEXT]
+}
+
+pub fn parts_room() -> [u8; PARTS]
+    ensures size { 196619 ≡ length result }
+    ensures enough { RecheckReads (length result) }
+{
+    [0u8; PARTS]
+}
+
+pub fn out_room() -> [u8; OUT]
+    ensures size { 65536 ≡ length result }
+    ensures stated { lent ≡ length result }
+{
+    [0u8; OUT]
+}
 
 // Standard input read into a room, to its end or until the room is full: how many bytes came.
 pub fn read_room(rt: &impl Input, room: &mut [u8]) -> io::Result<usize>
