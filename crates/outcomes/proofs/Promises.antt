@@ -1,10 +1,11 @@
 -- What a call comes to, its test of the scratch, a text copied to the output, and the scratch wiped; and that the promise leaves nothing open. Assumes nothing.
 use mathlib.Core.Path.{◌≡◌, refl, sym, ap, ap₂, subst, ◌∙◌}
 use mathlib.Core.Bool.{Bool, true, false}
-use Prim.Native.Nat.{ℕ, ◌≤◌, ◌<◌}
+use Prim.Native.Nat.{ℕ, suc, ◌+◌, ◌≤◌, ◌<◌}
 use mathlib.Core.Logic.{◌⊎◌, inl, inr}
-use mathlib.Core.List.{List, [], ◌∷◌}
-use lib.ListN.{length, replicate, get_or}
+use mathlib.Core.List.{List, [], ◌∷◌, ◌++◌}
+use lib.ListN.{length, replicate, take, drop, get_or, set, length-set}
+use lib.Seq.{paste-suc}
 use lib.Dec.{ltb}
 use native.Mathlib.Omega.{arith}
 use borrow.Author.Tests.{ltb-false, lt-ltb, le-ltb}
@@ -17,7 +18,7 @@ use Rattle.rules.specs.Refusals.{number}
 use Rattle.rules.specs.declared.Refusal.{Refusal}
 use Rattle.rules.specs.declared.Refusal.TheVariants.{Form, Ceiling, Range, Ascent, Frozen, Keys, Members, Nodes, Cells, Incomparable, Listing, Output, Scratch}
 use Rattle.rules.specs.declared.Fault.{Fault}
-use Rattle.outcomes.specs.Outcomes.{is_short, Short, outcome_of, Says, Zero, Wiped, Called}
+use Rattle.outcomes.specs.Outcomes.{is_short, Short, Copies, outcome_of, Says, Zero, Wiped, Called}
 
 -- each way out of `is_short`; m is what is stated for the arena
 module _ (d t a m w : ℕ) where
@@ -39,6 +40,40 @@ long_enough {d} {t} {a} {m} {w} h e =
     let q = neither (ltb t table_length) _ p.1 in
     let r = neither (ltb a m) _ q.1 in
     (ltb-false t table_length q.0, ltb-false a m r.0, ltb-false w work_length r.1)
+
+-- the first i bytes of the draft are copied
+pub record Copying (out₀ draft out : List ℕ) (n i : ℕ) : Type 0 where
+  pub few : i ≤ n
+  pub same : length out ≡ length out₀
+  pub is : out ≡ take i draft ++ drop i out₀
+
+pasted : (out draft : List ℕ) (i : ℕ) → i < length out → i < length draft
+    → set (take i draft ++ drop i out) i (get_or draft i 0) ≡ take (suc i) draft ++ drop (suc i) out
+pasted out draft i room long =
+    let z : 0 + i ≡ i = omega arith in
+    let y : 0 + suc i ≡ suc i = omega arith in
+    ap₂ {C = List ℕ} (λ (j k : ℕ). set (take i draft ++ drop j out) k (get_or draft i 0)) (sym z) (sym z)
+    ∙ paste-suc out 0 draft i 0 (omega arith) long
+    ∙ ap (λ (k : ℕ). take (suc i) draft ++ drop k out) y
+
+pub copying_start : {out draft : List ℕ} {n : ℕ} → Copying out draft out n 0
+copying_start = record { few = omega arith; same = refl; is = refl }
+
+pub copying_more : {out₀ draft out : List ℕ} {n i b : ℕ} → Copying out₀ draft out n i → i < n → n ≤ length out₀ → n ≤ length draft → b ≡ get_or draft i 0
+    → Copying out₀ draft (set out i b) n (i + 1)
+copying_more {out₀} {draft} {out} {n} {i} {b} c lt room long e =
+    let next : suc i ≡ i + 1 = omega arith in
+    record {
+      few = omega arith;
+      same = length-set out i b ∙ c.same;
+      is = ap₂ {C = List ℕ} (λ (l : List ℕ) (x : ℕ). set l i x) c.is e
+          ∙ pasted out₀ draft i (omega arith) (omega arith)
+          ∙ ap (λ (k : ℕ). take k draft ++ drop k out₀) next;
+    }
+
+pub copying_done : {out₀ draft out : List ℕ} {n i : ℕ} → Copying out₀ draft out n i → n ≤ i → Copies out₀ draft n out
+copying_done {out₀} {draft} {out} {n} {i} c h =
+    let e : i ≡ n = omega (arith, c.few) in record { is = c.is ∙ ap (λ (k : ℕ). take k draft ++ drop k out₀) e }
 
 -- the same, of the outcome that the rules give
 pub says_as : (out : List ℕ) {x y : Result (List ℕ)} {out' : List ℕ} {r : Result ℕ} → x ≡ y → Says (leaves out y) out' r → Says (leaves out x) out' r

@@ -15,12 +15,14 @@ pub fn is_short(draft: usize, table: usize, arena: usize, least: usize, work: us
         || work < WorkSlice::LENGTH
 }
 
-// The first n bytes of the draft copied to the output.
+// The first n bytes of the draft copied to the output. Not by `copy_from_slice`, which asks the host of the archive for `memmove`.
 pub fn copy(out: &mut [u8], draft: &[u8], n: usize)
     requires { Fits out.old draft.now n }
     ensures { Copies out.old draft.now n out.new }
 {
-    out[..n].copy_from_slice(&draft[..n]);
+    for i in 0..n {
+        out[i] = draft[i];
+    }
 }
 
 // Zero in every cell of the scratch that each call is lent.
