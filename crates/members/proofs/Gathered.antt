@@ -411,7 +411,15 @@ wraps_union = record { is = λ xs b. record { row = refl; cells = omega arith; m
 pub wraps_intersection : Wraps 6 Intersection
 wraps_intersection = record { is = λ xs b. record { row = refl; cells = omega arith; members = refl; plain = refl; below = b } }
 
--- `grow` by one
+-- the ways of `grow`
+pub grow_nothing : {out : List ℕ} {k : ℕ} {p : AtMostOne} {q : Pass} → p ≡ Nothing q → Grows out k p out (OnG k q)
+grow_nothing {out} {k} {p} {q} e =
+    record {
+      is = λ o w {xs} a g lt.
+          let b = subst (λ (x : AtMostOne). AnswersPart o w x) e a in
+          record { after = b.after; list = []; is = b.is; stands = b.stands; below = tt; most = omega arith; gathered = gathered_list (sym (append-nil xs)) g };
+    }
+
 pub grow_one : {out out' : List ℕ} {k r x : ℕ} {p : AtMostOne} {q : Pass} → p ≡ One x q → out' ≡ set out k x → Sum k 1 r → Grows out k p out' (OnG r q)
 grow_one {out} {out'} {k} {r} {x} {p} {q} e f sum =
     record {
